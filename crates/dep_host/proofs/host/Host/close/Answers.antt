@@ -1,5 +1,9 @@
-use Rattle.std.proofs.Common.{None, refl, sym, ap, subst, set, ◌∙◌}
+use Rattle.std.proofs.Common.{◌≡◌, ◌==◌, ℕ, if◌then◌else◌, [], None, refl, sym, ap, subst, set, ◌∙◌}
 use Rattle.std.proofs.lemmas.List.{get_or-set_same, get_or-set_other}
+use Rattle.dep_hub.specs.Records.{Absent}
+use Rattle.dep_hub.specs.Holding.{LineTransition, with_held}
+use Rattle.dep_hub.specs.RepresentsOwing.{behind_at}
+use Rattle.dep_hub.specs.declared.rest.Behind.TheVariants.{Nothing}
 use Rattle.dep_host.specs.Hosting.{MayGo, position}
 use Rattle.dep_host.proofs.HostLemmas.{within_still, free_once_left, slot_read, closing, closing_none, stays_set}
 use Rattle.dep_host.proofs.host.Host.close.Goals as goal
@@ -14,8 +18,8 @@ returns-in-Some-clause-goes g c = record {
         gone = ap (λ y. set c.args.self.now.slots.items c.args.at y) c.take.ensures.after;
         done = subst (λ o. MayGo (position c.args.self.now) c.args.second c.args.closing o) sat c.requires.done;
         next = c.close.ensures.kept.next;
-        moves = c.close.ensures.holding;
-        behind = c.close.ensures.behind;
+        moves = subst (λ (n : ℕ). LineTransition g.A.Archive.condition c.args.self.now.hub c.close.new.self n Absent (with_held n [])) c.connection.ensures c.close.ensures.holding;
+        behind = subst (λ (n : ℕ). (number : ℕ) → behind_at c.close.new.self.connections.items number ≡ (if number == n then Nothing else behind_at c.args.self.now.hub.connections.items number)) c.connection.ensures c.close.ensures.behind;
         same_store = c.close.ensures.kept.store;
         same_config = c.close.ensures.kept.config;
         same_limits = refl;
