@@ -1,3 +1,4 @@
+use Rattle.std.proofs.Common.{[]}
 use Rattle.dep_tables.proofs.Results.{not_storable}
 use Rattle.dep_tables.proofs.Done.{refuses, runs}
 use Rattle.dep_tables.specs.Texts.{delete_run_text}
