@@ -38,14 +38,6 @@ abbrev pub ReportsObject : View → State → ℕ → Object → Type 0
 ReportsObject view s n o =
     (view.object ≡ Some (object_row n o)) × (map.get s.objects n ≡ Some o)
 
--- in place of an object's row, this one makes of it this object, with the metadata and files it had
-pub record Rewrites (s : State) (row : ObjectRow) (o : Object) : Type 0 where
-  pub was : Object
-  pub there : map.get s.objects row.object ≡ Some was
-  pub is_row : row ≡ object_row row.object o
-  pub metadata : o.metadata ≡ was.metadata
-  pub files : o.files ≡ was.files
-
 -- ---- where the bytes of new files come from
 
 -- each segment of the upload was received, and they have the size that it was opened with

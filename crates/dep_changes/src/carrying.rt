@@ -15,10 +15,9 @@ use crate::objects::{complete, drop_file, drop_object, set_texts};
 use crate::uploads::{open, receive};
 use dep_decisions::{Decision, numbers_for};
 use dep_fixity::HashedOctets;
-use dep_objects::set_counters;
 use dep_operations::View;
 use dep_staging::drop_upload;
-use dep_tables::{StateRow, Statements};
+use dep_tables::{StateRow, Statements, write_state};
 use dep_types::StoreFault;
 use std::alloc::Global;
 
@@ -50,7 +49,7 @@ pub fn carry_out<T: Statements>(
     if next == view.next {
         return Ok(());
     }
-    set_counters(
+    write_state(
         tx,
         &StateRow {
             clock: view.clock,
