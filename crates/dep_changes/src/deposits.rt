@@ -57,7 +57,7 @@ pub(crate) fn added_to(view: &View, row: ObjectRow, deposit: &Deposit) -> Object
     }
 }
 
-// Puts a deposit in an object: files beside those that it has, or texts in the place of those that it has.
+// Picks what is put in an object by the deposit: files beside those that it has, or texts in the place of its own.
 fn fill<T: Statements>(
     tx: &mut T,
     numbered: &NumberedDeposit<'_>,
@@ -76,7 +76,7 @@ fn fill<T: Statements>(
     }
 }
 
-/// A new object with a deposit alone, under the next number.
+/// Adds the row of a new object, under the next number, and puts the deposit in it.
 pub(crate) fn create<T: Statements>(
     tx: &mut T,
     numbered: &NumberedDeposit<'_>,
@@ -100,7 +100,7 @@ fn clear_metadata<T: Statements>(tx: &mut T, alloc: Global, object: u64) -> Resu
     set_metadata(tx, alloc, object, &Metadata::new(alloc))
 }
 
-/// The deposit takes the place of all that the object has.
+/// Takes all from an object, whose row is that of a new one, and puts the deposit in it.
 pub(crate) fn replace<T: Statements>(
     tx: &mut T,
     numbered: &NumberedDeposit<'_>,
@@ -117,7 +117,7 @@ pub(crate) fn replace<T: Statements>(
     fill(tx, numbered, row.object)
 }
 
-/// The deposit is added to what the object has.
+/// Writes the row of an object that is there, and puts the deposit beside what it has.
 pub(crate) fn append<T: Statements>(
     tx: &mut T,
     numbered: &NumberedDeposit<'_>,

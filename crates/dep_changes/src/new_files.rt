@@ -41,9 +41,9 @@ struct NumberedFile<'a> {
 
 /// How many bytes a content has, and their digests.
 #[derive(Clone, Copy)]
-pub(crate) struct Extent {
-    pub(crate) size: u64,
-    pub(crate) digests: Digests,
+struct Extent {
+    size: u64,
+    digests: Digests,
 }
 
 /// A copy of the name of the person on whose behalf a file is deposited, if it is on anyone's.
@@ -65,8 +65,8 @@ fn is_reference(source: Source) -> bool
     }
 }
 
-/// The row of a new file that has such an extent.
-pub(crate) fn new_row(
+// The row of a new file that has such an extent.
+fn new_row(
     change: &Change<'_>,
     numbers: FileNumbers,
     new: &NewFile,
@@ -90,14 +90,14 @@ pub(crate) fn new_row(
 
 /// An upload that is whole, with the digests of its bytes.
 #[derive(Clone, Copy)]
-pub(crate) struct WholeUpload {
-    pub(crate) row: UploadRow,
-    pub(crate) digests: Digests,
+struct WholeUpload {
+    row: UploadRow,
+    digests: Digests,
 }
 
-/// The upload that is seen at this place. That it isn't there or isn't whole is a fault of the store, as the rules let
-/// no such request through.
-pub(crate) fn whole_upload(view: &View, index: usize) -> Result<WholeUpload, StoreFault>
+// The upload that is seen at this place. That it isn't there or isn't whole is a fault of the store, as the rules let
+// no such request through.
+fn whole_upload(view: &View, index: usize) -> Result<WholeUpload, StoreFault>
     ensures reported { IfOk result (λ whole. (u : ℕ) (it : Upload)
         → slice_get view.now.uploads index ≡ Some (whole_view u it)
         → (whole.row ≡ upload_row u it) × (whole.digests ≡ digests_of (assembled it))) }
@@ -151,7 +151,7 @@ pub(crate) fn row_of(
     Ok(new_row(change, numbers, new, extent)?)
 }
 
-// One new file of an object: of the content of the request, or of the bytes of an upload, which goes.
+// Makes the row of one new file, and takes its bytes by its source: of the request, or of an upload, which goes.
 fn put_new_file<T: Statements>(
     tx: &mut T,
     file: &NumberedFile<'_>,
@@ -170,7 +170,7 @@ fn put_new_file<T: Statements>(
     }
 }
 
-/// Adds new files to an object that is there, under the next numbers in their order.
+/// Numbers new files in their order, and puts one after another in an object that is there.
 pub(crate) fn put_new_files<T: Statements>(
     tx: &mut T,
     numbered: &NumberedFiles<'_>,

@@ -54,7 +54,7 @@ pub fn load_object<T: Statements>(
     Ok(Some(described))
 }
 
-/// The row of an object, without its metadata and files, if there is one. A number of 2^63 or more is a
+/// Reads an object of the state without its metadata and files: its row, if there is one. A number of 2^63 or more is a
 /// fault of the store.
 pub fn find_object<T: Statements>(tx: &mut T, object: u64) -> Result<Option<ObjectRow>, StoreFault>
     ensures does { ReadsMaps T.lenders T.state tx.old tx.new result

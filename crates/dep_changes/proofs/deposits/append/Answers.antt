@@ -47,7 +47,7 @@ returns-in-Metadata g c = record {
   map = λ n.
       let change = c.args.numbered.now.change.now in
       let row = c.ingested_by-row.result in
-      let texts = c.in-Metadata.field-0 in
+      let texts = c.in-Metadata.metadata in
       append_carried g.T.Statements.state c.args.tx.now c.append_metadata.new.tx c.append_metadata.result change c.args.numbered.now.deposit.now c.args.ingests c.in_ok-touched_object.field-0 row c.in_ok-touched_object.ensures.reported c.ingested_by-row.ensures n
       (subst (Appends g.T.Statements.lenders g.T.Statements.state c.args.tx.now c.append_metadata.new.tx c.append_metadata.result change row) (sym c.in-Metadata.is)
       (record {

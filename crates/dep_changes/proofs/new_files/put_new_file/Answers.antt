@@ -1,9 +1,9 @@
 use Rattle.std.proofs.Common.{◌≡◌, [], List, ℕ, Option, refl, sym, ap, subst, ◌∙◌}
 use Rattle.std.specs.Option.{option_map_or}
 use Rattle.std.specs.Prelude.{OnOk, slice_get}
-use Rattle.sha2.specs.Sha512.{sha512}
 use Rattle.dep_types.specs.State.{File, Upload}
 use Rattle.dep_types.specs.Uploads.{assembled}
+use Rattle.dep_fixity.specs.Fixity.{digests_of}
 use Rattle.dep_fixity.specs.declared.hasher.Digests.{Digests}
 use Rattle.dep_tables.proofs.Chains.{stays_put}
 use Rattle.dep_row_maps.specs.Clauses.{SeesState}
@@ -31,13 +31,13 @@ returns-in-Posted g c = record {
         let bytes : bytes_from s content new.source ≡ content = ap (bytes_from s content) c.in-Posted.is in
         subst (λ (from : Source). OnOk c.put_file.result (SeesState now (with_new_file s numbers.object o numbers.file file from))) (sym c.in-Posted.is)
         (put_as (λ (n f : ℕ). OnOk c.put_file.result (SeesState now (with_file s n o f file))) s numbers.object numbers.file o file c.in_ok-row.row (c.in_ok-row.ensures.reported s reported.0) reported.1
-        (λ there same. c.put_file.ensures.does.map clean inside ours s are o file there same (ap (λ (d : Digests). d.sha512) posted ∙ ap sha512 (sym bytes)) (sym bytes)));
+        (λ there same. c.put_file.ensures.does.map clean inside ours s are o file there same (ap (λ (d : Digests). d.sha512) posted ∙ ap (λ (bs : List ℕ). (digests_of bs).sha512) (sym bytes)) (sym bytes)));
     keeps = c.put_file.ensures.does.keeps;
   };
 }
 
-pub returns-in_ok-upload-in-Assembled : goal.returns-in_ok-upload-in-Assembled
-returns-in_ok-upload-in-Assembled g c = record {
+pub returns : goal.returns
+returns g c = record {
   map = record {
     done = λ o clean inside ours s are reported.
         let change = c.args.file.now.change.now in
@@ -53,7 +53,7 @@ returns-in_ok-upload-in-Assembled g c = record {
         let bytes : bytes_from s content new.source ≡ assembled it = ap (bytes_from s content) c.in-Assembled.is ∙ ap (λ (found : Option Upload). option_map_or assembled found []) source.there in
         subst (λ (from : Source). OnOk c.assemble.result (SeesState now (with_new_file s numbers.object o numbers.file file from))) (sym c.in-Assembled.is)
         (done_as (λ (n f w : ℕ). OnOk c.assemble.result (SeesState now (deposited s n o f file w))) s numbers.object numbers.file _ o it file c.in_ok-row.row up.row (c.in_ok-row.ensures.reported s reported.0) is.0 reported.1 source.there
-        (λ at_object at_upload upload_is same. c.assemble.ensures.does.map clean inside ours s are o it file at_object at_upload source.whole.segments upload_is same (ap (λ (d : Digests). d.sha512) is.1 ∙ ap sha512 (sym bytes)) bytes));
+        (λ at_object at_upload upload_is same. c.assemble.ensures.does.map clean inside ours s are o it file at_object at_upload source.whole.segments upload_is same (ap (λ (d : Digests). d.sha512) is.1 ∙ ap (λ (bs : List ℕ). (digests_of bs).sha512) (sym bytes)) bytes));
     keeps = c.assemble.ensures.does.keeps;
   };
 }

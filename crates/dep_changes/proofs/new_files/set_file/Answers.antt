@@ -55,9 +55,9 @@ returns g c = record {
             (c.put_new_file.ensures.map.done left clean (c.in_ok-delete_file.ensures.does.keeps.stays.inside clean_two inside_one) (c.in_ok-delete_file.ensures.does.keeps.ours clean_two inside_one ours_one) second gone
             ((numbers, subst (IsSource second content (slice_get view.uploads 0)) (sym source) refl), there_at second.objects row.object n left number (get_here s.objects n left)))
             (λ there.
-                let posted = subst (λ (from : Source). TablesAre (tables_of new) (with_new_file second row.object left f (made_file second as_new (bytes_from second content from)) from)) source there in
-                subst (λ (from : Source). TablesAre (tables_of new) (with_object s n (with_files s (finmap.insert o.files f (made_file s as_new (bytes_from s content from))) o))) (sym source)
-                (file_replaced (tables_of new) s n o f made (written_again (tables_of new) s n left it (at_number (tables_of new) second row.object n it number posted)))));
+            let posted = subst (λ (from : Source). TablesAre (tables_of new) (with_new_file second row.object left f (made_file second as_new (bytes_from second content from)) from)) source there in
+            subst (λ (from : Source). TablesAre (tables_of new) (with_object s n (with_files s (finmap.insert o.files f (made_file s as_new (bytes_from s content from))) o))) (sym source)
+            (file_replaced (tables_of new) s n o f made (written_again (tables_of new) s n left it (at_number (tables_of new) second row.object n it number posted)))));
         keeps = changes_then (changes_then c.in_ok-put_object.ensures.does.keeps c.in_ok-delete_file.ensures.does.keeps) c.put_new_file.ensures.map.keeps;
       };
 }
