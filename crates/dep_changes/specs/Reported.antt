@@ -7,7 +7,6 @@ use Rattle.dep_types.specs.Rows.{object_row, upload_row}
 use Rattle.dep_types.specs.Sound.{IsSound}
 use Rattle.dep_types.specs.Uploads.{assembled}
 use Rattle.dep_types.specs.declared.config.Config.{Config}
-use Rattle.dep_types.specs.declared.rows.ObjectRow.{ObjectRow}
 use Rattle.dep_fixity.specs.Fixity.{digests_of}
 use Rattle.dep_staging.specs.Assembling.{HasItsSegments}
 use Rattle.dep_decisions.specs.LookUps.{repeats}

@@ -1,7 +1,7 @@
 use Rattle.std.proofs.Common.{List, refl, ap, sym, subst, ◌∙◌}
 use Rattle.std.specs.FinMap as finmap
 use Rattle.dep_types.specs.Rows.{object_row}
-use Rattle.dep_types.specs.State.{State, Object}
+use Rattle.dep_types.specs.State.{Object}
 use Rattle.dep_types.specs.MetadataEntries.{joined}
 use Rattle.dep_tables.proofs.Chains.{clean_before, stays_put}
 use Rattle.dep_tables.proofs.Results.{ok_then}

@@ -1,4 +1,4 @@
-use Rattle.std.proofs.Common.{◌≡◌, [], List, ℕ, Option, refl, sym, ap, subst, ◌∙◌}
+use Rattle.std.proofs.Common.{◌≡◌, [], List, ℕ, Option, sym, ap, subst, ◌∙◌}
 use Rattle.std.specs.Option.{option_map_or}
 use Rattle.std.specs.Prelude.{OnOk, slice_get}
 use Rattle.dep_types.specs.State.{File, Upload}
@@ -7,7 +7,7 @@ use Rattle.dep_fixity.specs.Fixity.{digests_of}
 use Rattle.dep_fixity.specs.declared.hasher.Digests.{Digests}
 use Rattle.dep_tables.proofs.Chains.{stays_put}
 use Rattle.dep_row_maps.specs.Clauses.{SeesState}
-use Rattle.dep_row_maps.proofs.Changing.{changes_put, each_failed}
+use Rattle.dep_row_maps.proofs.Changing.{each_failed}
 use Rattle.dep_files.specs.Edits.{with_file}
 use Rattle.dep_staging.specs.Assembling.{deposited}
 use Rattle.dep_decisions.specs.Effects.{bytes_from, file_from}
