@@ -8,6 +8,7 @@ use Rattle.dep_types.specs.declared.store_fault.StoreFault.{StoreFault}
 use Rattle.dep_tables.proofs.Results.{ok_then}
 use Rattle.dep_tables.specs.Tables.{Tables, tables_of}
 use Rattle.dep_row_maps.specs.TablesAre.{TablesAre}
+use Rattle.dep_objects.specs.Objects.{Rewrites}
 use Rattle.dep_decisions.specs.Effects.{appended, ingested_by, uploads_in, without}
 use Rattle.dep_decisions.specs.declared.decision.Deposit.{Deposit}
 use Rattle.dep_decisions.specs.declared.decision.Deposit.TheVariants.{Files, Metadata}
@@ -15,7 +16,7 @@ use Rattle.dep_decisions.specs.declared.decision.Decision.TheVariants.{Append}
 use Rattle.dep_changes.specs.declared.change.Change.{Change}
 use Rattle.dep_changes.specs.Changed.{with_deposit}
 use Rattle.dep_changes.specs.Clauses.{Appends, CarriesOut}
-use Rattle.dep_changes.specs.Reported.{Rewrites, ReportsObject}
+use Rattle.dep_changes.specs.Reported.{ReportsObject}
 use Rattle.dep_changes.proofs.Carried.{at_object}
 use Rattle.dep_changes.proofs.Filled.{ingested_row}
 use Rattle.dep_changes.proofs.Steps.{row_is, its_number, rewritten}

@@ -10,6 +10,7 @@ use Rattle.dep_tables.specs.Tables.{Tables}
 use Rattle.dep_row_maps.proofs.Lens.{insert_twice}
 use Rattle.dep_row_maps.specs.TablesAre.{TablesAre, with_object}
 use Rattle.dep_objects.specs.Objects.{object_of}
+use Rattle.dep_objects.proofs.Puts.{row_is_of}
 use Rattle.dep_decisions.specs.Effects.{blank, filled, ingested_by, uploads_in, without}
 use Rattle.dep_decisions.specs.declared.decision.Deposit.{Deposit}
 use Rattle.dep_decisions.specs.declared.decision.Deposit.TheVariants.{Files, Metadata}
@@ -17,7 +18,6 @@ use Rattle.dep_operations.specs.declared.view.UploadView.{UploadView}
 use Rattle.dep_changes.specs.Reported.{HasSources}
 use Rattle.dep_changes.specs.Changed.{put_in, with_deposit}
 use Rattle.dep_changes.proofs.Added.{added_alike}
-use Rattle.dep_changes.proofs.Steps.{row_is_of}
 
 -- ---- the rows
 

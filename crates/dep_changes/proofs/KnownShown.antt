@@ -16,13 +16,22 @@ use Rattle.dep_decisions.specs.declared.decision.Deposit.{Deposit}
 use Rattle.dep_decisions.specs.declared.decision.NewFile.{NewFile}
 use Rattle.dep_decisions.specs.declared.decision.Decision.TheVariants.{Show, Create, Append, Replace, Complete, SetMetadata, SetFiles, SetFile}
 use Rattle.dep_answers.specs.ReadSets.{files_view}
+use Rattle.dep_answers.specs.declared.read_set.Shown.{Shown}
 use Rattle.dep_answers.specs.declared.read_set.Shown.TheVariants as shown
 use Rattle.dep_operations.specs.declared.view.View.{View}
 use Rattle.dep_objects.specs.Objects.{HasRow}
 use Rattle.dep_objects.proofs.Puts.{has_row}
 use Rattle.dep_changes.proofs.Appended.{ingested_after}
 use Rattle.dep_changes.specs.Known.{known_row, known_shown, row_in, row_left}
-use Rattle.dep_changes.specs.Reported.{ReportsObject}
+use Rattle.dep_changes.specs.Reported.{IsAccepted, ReportsFor, ReportsNumbers, ReportsObject}
+use Rattle.dep_changes.proofs.Carried.{numbers_reported, reported as all_reported}
+
+-- what is known of a request that is accepted is known by the form of its decision
+pub known_of : (s : State) (view : View) (content : List ℕ) (decision d : Decision) → decision ≡ d → (known : Option Shown) → IsAccepted s view content decision
+    → (ReportsNumbers view s → ReportsFor view s content d → known ≡ known_shown s content d) → known ≡ known_shown s content decision
+known_of s view content decision d is known it by_form =
+    subst (λ (x : Decision). known ≡ known_shown s content x) (sym is)
+    (by_form (numbers_reported s view content decision it) (subst (ReportsFor view s content) is (all_reported s view content decision it)))
 
 -- a new object
 pub created_known : (s : State) (content : List ℕ) (d : Deposit) (ingests : Bool) (reported : ObjectView) → reported ≡ files_view s.next.object (filled s content d ingests)

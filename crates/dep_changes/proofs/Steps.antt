@@ -9,27 +9,15 @@ use Rattle.dep_types.specs.Rows.{object_row}
 use Rattle.dep_types.specs.declared.counters.Counters.{Counters}
 use Rattle.dep_types.specs.declared.rows.ObjectRow.{ObjectRow}
 use Rattle.dep_tables.specs.Tables.{Tables}
-use Rattle.dep_objects.specs.Objects.{object_of}
+use Rattle.dep_objects.specs.Objects.{Rewrites}
 use Rattle.dep_row_maps.specs.TablesAre.{TablesAre, metadata_at, files_at, with_object, without_object}
 use Rattle.dep_row_maps.proofs.Files.{same_number}
 use Rattle.dep_row_maps.proofs.Lens.{get_here, get_there, get_gone, get_left, insert_twice}
 use Rattle.dep_decisions.specs.Effects.{changed, ingested_by, with_files, with_texts}
-use Rattle.dep_changes.specs.Reported.{Rewrites}
 
 -- an object is written, and then again
 pub written_again : (t : Tables) (s : State) (n : ℕ) (a b : Object) → TablesAre t (with_object (with_object s n a) n b) → TablesAre t (with_object s n b)
 written_again t s n a b are = subst (λ (m : Numbered Object). TablesAre t (record s { objects = m })) (insert_twice s.objects n a b) are
-
--- the row of an object makes the object, with its metadata and files
-pub row_is_of : (t : Tables) (s : State) (row : ObjectRow) (was o : Object) → row ≡ object_row row.object o → o.metadata ≡ was.metadata → o.files ≡ was.files
-    → TablesAre t (with_object s row.object (object_of row was.metadata was.files)) → TablesAre t (with_object s row.object o)
-row_is_of t s row was o is texts files are =
-    let n = row.object in
-    let same : object_of row was.metadata was.files ≡ o =
-    ap (λ (r : ObjectRow). object_of r was.metadata was.files) is
-    ∙ ap (λ (m : Texts). object_of (object_row n o) m was.files) (sym texts)
-    ∙ ap (λ (f : Numbered File). object_of (object_row n o) o.metadata f) (sym files) in
-    subst (λ (x : Object). TablesAre t (with_object s n x)) same are
 
 or_true : (b : Bool) → true ≡ (b || true)
 or_true true = refl

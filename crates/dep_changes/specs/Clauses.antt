@@ -13,7 +13,8 @@ use Rattle.dep_decisions.specs.declared.decision.Deposit.{Deposit}
 use Rattle.dep_decisions.specs.declared.decision.Decision.{Decision}
 use Rattle.dep_changes.specs.declared.change.Change.{Change}
 use Rattle.dep_changes.specs.declared.new_files.FileNumbers.{FileNumbers}
-use Rattle.dep_changes.specs.Reported.{Rewrites, ReportsDecision, ReportsDeposit, ReportsNewFile}
+use Rattle.dep_objects.specs.Objects.{Rewrites}
+use Rattle.dep_changes.specs.Reported.{ReportsDecision, ReportsDeposit, ReportsNewFile}
 use Rattle.dep_changes.specs.Changed.{made_file, put_in, with_deposit, with_maps, with_new_file}
 
 module _ {T A : Type 0} (state : T → db.State) (old new : T) (result : Result A StoreFault) where

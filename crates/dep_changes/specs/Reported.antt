@@ -7,7 +7,6 @@ use Rattle.dep_types.specs.Rows.{object_row, upload_row}
 use Rattle.dep_types.specs.Sound.{IsSound}
 use Rattle.dep_types.specs.Uploads.{assembled}
 use Rattle.dep_types.specs.declared.config.Config.{Config}
-use Rattle.dep_types.specs.declared.rows.ObjectRow.{ObjectRow}
 use Rattle.dep_fixity.specs.Fixity.{digests_of}
 use Rattle.dep_staging.specs.Assembling.{HasItsSegments}
 use Rattle.dep_decisions.specs.LookUps.{repeats}
@@ -37,14 +36,6 @@ ReportsNumbers view s = (view.clock ≡ s.clock) × (view.next ≡ s.next)
 abbrev pub ReportsObject : View → State → ℕ → Object → Type 0
 ReportsObject view s n o =
     (view.object ≡ Some (object_row n o)) × (map.get s.objects n ≡ Some o)
-
--- in place of an object's row, this one makes of it this object, with the metadata and files it had
-pub record Rewrites (s : State) (row : ObjectRow) (o : Object) : Type 0 where
-  pub was : Object
-  pub there : map.get s.objects row.object ≡ Some was
-  pub is_row : row ≡ object_row row.object o
-  pub metadata : o.metadata ≡ was.metadata
-  pub files : o.files ≡ was.files
 
 -- ---- where the bytes of new files come from
 

@@ -15,18 +15,17 @@ use crate::objects::{complete, drop_file, drop_object, set_texts};
 use crate::uploads::{open, receive};
 use dep_decisions::{Decision, numbers_for};
 use dep_fixity::HashedOctets;
-use dep_objects::set_counters;
 use dep_operations::View;
 use dep_staging::drop_upload;
-use dep_tables::{StateRow, Statements};
+use dep_tables::{StateRow, Statements, write_state};
 use dep_types::StoreFault;
 use std::alloc::Global;
 
-/// Makes of the tables what an accepted request's decision makes of the state. The view is true of the state
-/// where the request touches it, and the content is that of the request. Nothing is hashed: the digests of a
-/// posted content stand in the decision, and those of uploads in the view. A number of 2^63 or more is a
-/// fault of the store, and so is that something is not there which the rules have seen. Where nothing is
-/// changed, no statement is run.
+/// Makes of the tables what an accepted request's decision makes of the state: first of the maps, then of the clock and
+/// the counters. The view is true of the state where the request touches it, and the content is that of the request.
+/// Nothing is hashed: the digests of a posted content stand in the decision, and those of uploads in the view. A number
+/// of 2^63 or more is a fault of the store, and so is that something is not there which the rules have seen. Where
+/// nothing is changed, no statement is run.
 pub fn carry_out<T: Statements>(
     tx: &mut T,
     alloc: Global,
@@ -50,7 +49,7 @@ pub fn carry_out<T: Statements>(
     if next == view.next {
         return Ok(());
     }
-    set_counters(
+    write_state(
         tx,
         &StateRow {
             clock: view.clock,
@@ -59,7 +58,8 @@ pub fn carry_out<T: Statements>(
     )
 }
 
-// What becomes of the objects and the uploads.
+// Picks the change of the objects and the uploads by the decision. It is apart from `carry_out`, as what thirteen calls
+// did would be lost where they join before another.
 fn change_maps<T: Statements>(
     tx: &mut T,
     change: &Change<'_>,

@@ -2,53 +2,18 @@
 //! tables.
 
 ghost use Rattle.std.specs.Prelude.{◌≡◌, ℕ, Bool, IfOk};
-ghost use Rattle.dep_types.specs.Rows.{file_row, object_row};
+ghost use Rattle.dep_types.specs.Rows.{object_row};
 ghost use Rattle.dep_types.specs.State.{State, Object};
-ghost use Rattle.dep_decisions.specs.Effects.{blank, bytes_from, file_from};
+ghost use Rattle.dep_decisions.specs.Effects.{blank};
 ghost use Rattle.dep_decisions.specs.declared.decision.Deposit.TheVariants.{Files};
-ghost use Rattle.dep_changes.specs.Changed.{IsExtent, new_rows};
+ghost use Rattle.dep_changes.specs.Changed.{new_rows};
 ghost use Rattle.dep_changes.specs.Known.{IsFilledView, IsRowFrom, ReportsNumbered};
-ghost use Rattle.dep_changes.specs.Reported.{ReportsDeposit, ReportsNewFile, ReportsObject, ReportsSource};
+ghost use Rattle.dep_changes.specs.Reported.{ReportsDeposit, ReportsNewFile, ReportsObject};
 
 use crate::change::{Change, NumberedDeposit, NumberedFiles, touched_object};
-use crate::new_files::{Extent, FileNumbers, new_row, whole_upload};
-use dep_decisions::{Deposit, NewFile, Source};
+use crate::new_files::{FileNumbers, row_of};
+use dep_decisions::{Deposit, NewFile};
 use dep_types::{FileRow, FileRows, Metadata, ObjectRow, ObjectView, Sha512s, StoreFault};
-
-// How many bytes a new file has, and their digests.
-fn extent_of(change: &Change<'_>, source: Source, index: usize) -> Result<Extent, StoreFault>
-    ensures { (s : State) → ReportsSource change.now s index source
-        → IfOk result (λ extent. IsExtent extent (bytes_from s change.now.content.now source)) }
-{
-    match source {
-        Source::Posted(digests) => Ok(Extent {
-            size: change.content.as_slice().len() as u64,
-            digests,
-        }),
-        Source::Assembled(_) => {
-            let upload = whole_upload(change.view, index)?;
-            Ok(Extent {
-                size: upload.row.size,
-                digests: upload.digests,
-            })
-        }
-    }
-}
-
-// The row of a new file.
-fn row_of(
-    change: &Change<'_>,
-    numbers: FileNumbers,
-    new: &NewFile,
-    index: usize,
-) -> Result<FileRow, StoreFault>
-    ensures reported { (s : State) → ReportsNewFile change.now s index new.now.source
-        → IfOk result (λ row. row
-        ≡ file_row numbers.object numbers.file (file_from s change.now.content.now new.now)) }
-{
-    let extent = extent_of(change, new.source, index)?;
-    Ok(new_row(change, numbers, new, extent)?)
-}
 
 // The rows of the files of a new object, under the next numbers in their order.
 fn new_rows(numbered: &NumberedFiles<'_>, object: u64) -> Result<FileRows, StoreFault>

@@ -8,15 +8,15 @@ ghost use Rattle.dep_row_maps.specs.TablesAre.{with_metadata, with_object};
 ghost use Rattle.dep_decisions.specs.Effects.{appended};
 ghost use Rattle.dep_decisions.specs.declared.decision.Decision.TheVariants.{Append, Create, Replace};
 ghost use Rattle.dep_changes.specs.Changed.{blank_row};
-ghost use Rattle.dep_changes.specs.Clauses.{Appends, CarriesOut, MakesOf, PutsIn};
+ghost use Rattle.dep_changes.specs.Clauses.{CarriesOut, MakesOf, PutsIn};
 ghost use Rattle.dep_changes.specs.Reported.{ReportsNumbers};
 
 use crate::change::{Change, NumberedDeposit, NumberedFiles, touched_object};
 use crate::new_files::put_new_files;
-use crate::objects::{files_changed, texts_changed, write_row};
+use crate::objects::{files_changed, texts_changed};
 use dep_decisions::Deposit;
 use dep_files::delete_files;
-use dep_objects::{add_object, append_metadata, set_metadata};
+use dep_objects::{add_object, append_metadata, put_object, set_metadata};
 use dep_operations::View;
 use dep_tables::Statements;
 use dep_types::{Metadata, ObjectRow, StoreFault};
@@ -57,7 +57,7 @@ pub(crate) fn added_to(view: &View, row: ObjectRow, deposit: &Deposit) -> Object
     }
 }
 
-// Puts a deposit in an object: files beside those that it has, or texts in the place of those that it has.
+// Picks what is put in an object by the deposit: files beside those that it has, or texts in the place of its own.
 fn fill<T: Statements>(
     tx: &mut T,
     numbered: &NumberedDeposit<'_>,
@@ -76,7 +76,7 @@ fn fill<T: Statements>(
     }
 }
 
-/// A new object with a deposit alone, under the next number.
+/// Adds the row of a new object, under the next number, and puts the deposit in it.
 pub(crate) fn create<T: Statements>(
     tx: &mut T,
     numbered: &NumberedDeposit<'_>,
@@ -100,7 +100,7 @@ fn clear_metadata<T: Statements>(tx: &mut T, alloc: Global, object: u64) -> Resu
     set_metadata(tx, alloc, object, &Metadata::new(alloc))
 }
 
-/// The deposit takes the place of all that the object has.
+/// Takes all from an object, whose row is that of a new one, and puts the deposit in it.
 pub(crate) fn replace<T: Statements>(
     tx: &mut T,
     numbered: &NumberedDeposit<'_>,
@@ -113,36 +113,11 @@ pub(crate) fn replace<T: Statements>(
     let row = ingested_by(touched_object(change.view)?, ingests);
     delete_files(tx, change.alloc, row.object)?;
     clear_metadata(tx, change.alloc, row.object)?;
-    write_row(tx, &blank_row(change.view, row.object, row.ingested))?;
+    put_object(tx, &blank_row(change.view, row.object, row.ingested))?;
     fill(tx, numbered, row.object)
 }
 
-fn append_files<T: Statements>(
-    tx: &mut T,
-    numbered: &NumberedFiles<'_>,
-    row: ObjectRow,
-) -> Result<(), StoreFault>
-    ensures map { Appends T.lenders T.state tx.old tx.new result numbered.now.change.now row
-        (Deposit.Files numbered.now.files.now) }
-{
-    write_row(tx, &files_changed(numbered.change.view, row))?;
-    put_new_files(tx, numbered, row.object)
-}
-
-fn append_texts<T: Statements>(
-    tx: &mut T,
-    change: &Change<'_>,
-    row: ObjectRow,
-    metadata: &Metadata,
-) -> Result<(), StoreFault>
-    ensures map { Appends T.lenders T.state tx.old tx.new result change.now row
-        (Deposit.Metadata metadata.now) }
-{
-    write_row(tx, &texts_changed(change.view, row))?;
-    append_metadata(tx, change.alloc, row.object, metadata)
-}
-
-/// The deposit is added to what the object has.
+/// Writes the row of an object that is there, and puts the deposit beside what it has.
 pub(crate) fn append<T: Statements>(
     tx: &mut T,
     numbered: &NumberedDeposit<'_>,
@@ -153,11 +128,12 @@ pub(crate) fn append<T: Statements>(
 {
     let change = numbered.change;
     let row = ingested_by(touched_object(change.view)?, ingests);
+    put_object(tx, &added_to(change.view, row, numbered.deposit))?;
     match numbered.deposit {
         Deposit::Files(files) => {
             let files = files.as_slice();
-            append_files(tx, &NumberedFiles { change, files }, row)
+            put_new_files(tx, &NumberedFiles { change, files }, row.object)
         }
-        Deposit::Metadata(metadata) => append_texts(tx, change, row, metadata),
+        Deposit::Metadata(metadata) => append_metadata(tx, change.alloc, row.object, metadata),
     }
 }

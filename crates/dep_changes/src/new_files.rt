@@ -1,23 +1,23 @@
 //! New files, each under the next number, with their contents.
 
 ghost use Rattle.std.specs.Prelude.{◌≡◌, ⊤, ℕ, slice_get, Some, None, IfOk};
-ghost use Rattle.dep_types.specs.State.{Upload};
-ghost use Rattle.dep_types.specs.Rows.{upload_row};
+ghost use Rattle.dep_types.specs.State.{State, Upload};
+ghost use Rattle.dep_types.specs.Rows.{file_row, upload_row};
 ghost use Rattle.dep_types.specs.Uploads.{assembled};
 ghost use Rattle.dep_fixity.specs.Fixity.{digests_of};
-ghost use Rattle.dep_decisions.specs.Effects.{is_reference};
+ghost use Rattle.dep_decisions.specs.Effects.{bytes_from, file_from, is_reference};
 ghost use Rattle.dep_decisions.specs.declared.decision.Decision.TheVariants.{SetFile, SetFiles};
 ghost use Rattle.dep_decisions.specs.declared.decision.Deposit.TheVariants.{Files};
-ghost use Rattle.dep_decisions.specs.declared.decision.Source.TheVariants.{Assembled, Posted};
-ghost use Rattle.dep_changes.specs.Changed.{new_row};
+ghost use Rattle.dep_changes.specs.Changed.{IsExtent, new_row};
 ghost use Rattle.dep_changes.specs.Clauses.{CarriesOut, PutsFile, PutsIn};
-ghost use Rattle.dep_changes.specs.Reported.{whole_view};
+ghost use Rattle.dep_changes.specs.Reported.{ReportsNewFile, ReportsSource, whole_view};
 
 use crate::change::{Change, NumberedFiles, touched_object};
-use crate::objects::{files_changed, write_row};
+use crate::objects::files_changed;
 use dep_decisions::{NewFile, Source};
 use dep_files::{delete_file, delete_files, put_file};
 use dep_fixity::Digests;
+use dep_objects::put_object;
 use dep_operations::{UploadState, UploadView, View};
 use dep_staging::assemble;
 use dep_tables::Statements;
@@ -41,9 +41,9 @@ struct NumberedFile<'a> {
 
 /// How many bytes a content has, and their digests.
 #[derive(Clone, Copy)]
-pub(crate) struct Extent {
-    pub(crate) size: u64,
-    pub(crate) digests: Digests,
+struct Extent {
+    size: u64,
+    digests: Digests,
 }
 
 /// A copy of the name of the person on whose behalf a file is deposited, if it is on anyone's.
@@ -65,8 +65,8 @@ fn is_reference(source: Source) -> bool
     }
 }
 
-/// The row of a new file that has such an extent.
-pub(crate) fn new_row(
+// The row of a new file that has such an extent.
+fn new_row(
     change: &Change<'_>,
     numbers: FileNumbers,
     new: &NewFile,
@@ -88,34 +88,16 @@ pub(crate) fn new_row(
     })
 }
 
-// A file of the content of the request.
-fn put_posted<T: Statements>(
-    tx: &mut T,
-    file: &NumberedFile<'_>,
-    digests: Digests,
-) -> Result<(), StoreFault>
-    ensures map { (place : ℕ) → PutsFile T.lenders T.state tx.old tx.new result file.now.change.now
-        file.now.numbers file.now.new.now place (Posted digests) }
-{
-    let content = file.change.content;
-    let extent = Extent {
-        size: content.as_slice().len() as u64,
-        digests,
-    };
-    let row = new_row(file.change, file.numbers, file.new, extent)?;
-    put_file(tx, &row, &digests.sha512, content)
-}
-
 /// An upload that is whole, with the digests of its bytes.
 #[derive(Clone, Copy)]
-pub(crate) struct WholeUpload {
-    pub(crate) row: UploadRow,
-    pub(crate) digests: Digests,
+struct WholeUpload {
+    row: UploadRow,
+    digests: Digests,
 }
 
-/// The upload that is seen at this place. That it isn't there or isn't whole is a fault of the store, as the rules let
-/// no such request through.
-pub(crate) fn whole_upload(view: &View, index: usize) -> Result<WholeUpload, StoreFault>
+// The upload that is seen at this place. That it isn't there or isn't whole is a fault of the store, as the rules let
+// no such request through.
+fn whole_upload(view: &View, index: usize) -> Result<WholeUpload, StoreFault>
     ensures reported { IfOk result (λ whole. (u : ℕ) (it : Upload)
         → slice_get view.now.uploads index ≡ Some (whole_view u it)
         → (whole.row ≡ upload_row u it) × (whole.digests ≡ digests_of (assembled it))) }
@@ -134,25 +116,42 @@ pub(crate) fn whole_upload(view: &View, index: usize) -> Result<WholeUpload, Sto
     })
 }
 
-// A file of the bytes of an upload, which goes.
-fn put_assembled<T: Statements>(
-    tx: &mut T,
-    file: &NumberedFile<'_>,
-    index: usize,
-) -> Result<(), StoreFault>
-    ensures map { (u : ℕ) → PutsFile T.lenders T.state tx.old tx.new result file.now.change.now
-        file.now.numbers file.now.new.now index (Assembled u) }
+// How many bytes a new file has, and their digests.
+fn extent_of(change: &Change<'_>, source: Source, index: usize) -> Result<Extent, StoreFault>
+    ensures { (s : State) → ReportsSource change.now s index source
+        → IfOk result (λ extent. IsExtent extent (bytes_from s change.now.content.now source)) }
 {
-    let upload = whole_upload(file.change.view, index)?;
-    let extent = Extent {
-        size: upload.row.size,
-        digests: upload.digests,
-    };
-    let row = new_row(file.change, file.numbers, file.new, extent)?;
-    assemble(tx, &upload.row, &row, &upload.digests.sha512)
+    match source {
+        Source::Posted(digests) => Ok(Extent {
+            size: change.content.as_slice().len() as u64,
+            digests,
+        }),
+        Source::Assembled(_) => {
+            let upload = whole_upload(change.view, index)?;
+            Ok(Extent {
+                size: upload.row.size,
+                digests: upload.digests,
+            })
+        }
+    }
 }
 
-// One of the new files of an object, in their order.
+/// The row of a new file, whose bytes come from its source.
+pub(crate) fn row_of(
+    change: &Change<'_>,
+    numbers: FileNumbers,
+    new: &NewFile,
+    index: usize,
+) -> Result<FileRow, StoreFault>
+    ensures reported { (s : State) → ReportsNewFile change.now s index new.now.source
+        → IfOk result (λ row. row
+        ≡ file_row numbers.object numbers.file (file_from s change.now.content.now new.now)) }
+{
+    let extent = extent_of(change, new.source, index)?;
+    Ok(new_row(change, numbers, new, extent)?)
+}
+
+// Makes the row of one new file, and takes its bytes by its source: of the request, or of an upload, which goes.
 fn put_new_file<T: Statements>(
     tx: &mut T,
     file: &NumberedFile<'_>,
@@ -161,13 +160,17 @@ fn put_new_file<T: Statements>(
     ensures map { PutsFile T.lenders T.state tx.old tx.new result file.now.change.now
         file.now.numbers file.now.new.now index file.now.new.now.source }
 {
+    let row = row_of(file.change, file.numbers, file.new, index)?;
     match file.new.source {
-        Source::Posted(digests) => put_posted(tx, file, digests),
-        Source::Assembled(_) => put_assembled(tx, file, index),
+        Source::Posted(digests) => put_file(tx, &row, &digests.sha512, file.change.content),
+        Source::Assembled(_) => {
+            let upload = whole_upload(file.change.view, index)?;
+            assemble(tx, &upload.row, &row, &upload.digests.sha512)
+        }
     }
 }
 
-/// Adds new files to an object that is there, under the next numbers in their order.
+/// Numbers new files in their order, and puts one after another in an object that is there.
 pub(crate) fn put_new_files<T: Statements>(
     tx: &mut T,
     numbered: &NumberedFiles<'_>,
@@ -204,11 +207,11 @@ pub(crate) fn set_files<T: Statements>(
     let change = numbered.change;
     let row = touched_object(change.view)?;
     delete_files(tx, change.alloc, row.object)?;
-    write_row(tx, &files_changed(change.view, row))?;
+    put_object(tx, &files_changed(change.view, row))?;
     put_new_files(tx, numbered, row.object)
 }
 
-/// The file of the object becomes the content of the request, under its number. No other source is asked for.
+/// The file of the object becomes the content of the request, under its number.
 pub(crate) fn set_file<T: Statements>(
     tx: &mut T,
     change: &Change<'_>,
@@ -218,11 +221,8 @@ pub(crate) fn set_file<T: Statements>(
     ensures map { (n : ℕ) → CarriesOut T.lenders T.state tx.old tx.new result change.now
         (SetFile n file new.now) }
 {
-    let Source::Posted(digests) = new.source else {
-        return Err(StoreFault::Store);
-    };
     let row = touched_object(change.view)?;
-    write_row(tx, &files_changed(change.view, row))?;
+    put_object(tx, &files_changed(change.view, row))?;
     delete_file(tx, file)?;
     let numbers = FileNumbers {
         object: row.object,
@@ -233,5 +233,5 @@ pub(crate) fn set_file<T: Statements>(
         numbers,
         new,
     };
-    put_posted(tx, &numbered, digests)
+    put_new_file(tx, &numbered, 0)
 }

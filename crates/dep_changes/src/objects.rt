@@ -2,26 +2,17 @@
 
 ghost use Rattle.std.specs.Prelude.{◌≡◌, ℕ, Some, true};
 ghost use Rattle.std.specs.FinMap as map;
-ghost use Rattle.dep_row_maps.specs.TablesAre.{with_object, without_object};
+ghost use Rattle.dep_row_maps.specs.TablesAre.{without_object};
 ghost use Rattle.dep_decisions.specs.declared.decision.Decision.TheVariants.{Complete, DropFile, SetMetadata};
 ghost use Rattle.dep_changes.specs.Clauses.{CarriesOut, MakesOf};
-ghost use Rattle.dep_changes.specs.Reported.{Rewrites};
 
 use crate::change::{Change, touched_object};
 use dep_files::{delete_file, delete_files};
-use dep_objects::{delete_object, put_object};
+use dep_objects::{delete_object, put_object, set_metadata};
 use dep_operations::View;
 use dep_tables::Statements;
 use dep_types::{Metadata, ObjectRow, StoreFault};
 use std::alloc::Global;
-
-/// Writes the row of an object that is there, and keeps its metadata and files.
-pub(crate) fn write_row<T: Statements>(tx: &mut T, row: &ObjectRow) -> Result<(), StoreFault>
-    ensures map { MakesOf T.lenders T.state tx.old tx.new result
-        (λ o s. Rewrites s row.now o) (λ o s. with_object s row.now.object o) }
-{
-    put_object(tx, row)
-}
 
 /// The row of an object that becomes ingested.
 pub(crate) fn completed(view: &View, row: ObjectRow) -> ObjectRow
@@ -45,7 +36,7 @@ pub(crate) fn complete<T: Statements>(tx: &mut T, change: &Change<'_>) -> Result
         (Complete n) }
 {
     let row = touched_object(change.view)?;
-    write_row(tx, &completed(change.view, row))
+    put_object(tx, &completed(change.view, row))
 }
 
 /// The row of an object whose metadata changes.
@@ -74,8 +65,8 @@ pub(crate) fn set_texts<T: Statements>(
         (SetMetadata n metadata.now) }
 {
     let row = touched_object(change.view)?;
-    write_row(tx, &texts_changed(change.view, row))?;
-    dep_objects::set_metadata(tx, change.alloc, row.object, metadata)
+    put_object(tx, &texts_changed(change.view, row))?;
+    set_metadata(tx, change.alloc, row.object, metadata)
 }
 
 /// The row of an object whose files change.
@@ -104,7 +95,7 @@ pub(crate) fn drop_file<T: Statements>(
         (DropFile n file) }
 {
     let row = touched_object(change.view)?;
-    write_row(tx, &files_changed(change.view, row))?;
+    put_object(tx, &files_changed(change.view, row))?;
     delete_file(tx, file)
 }
 

@@ -8,7 +8,7 @@ ghost use Rattle.dep_schema.specs.OpenTables.{HoldsNone, IsOpenable};
 ghost use Rattle.dep_store.specs.Causes.{FailsToOpenTables};
 ghost use Rattle.dep_store.specs.Migrating.{Keeps};
 ghost use Rattle.dep_commands.specs.Starting.{GoesOnFromStop, IsGivenOrStore, OpeningLeaves, RefusesConfig, outcome_of_start};
-ghost use Rattle.dep_hub.specs.OpenTables.{RepresentsAfter, IsClean, IsHonest};
+ghost use Rattle.dep_hub.specs.Representing.{RepresentsAfter, IsClean, IsHonest};
 ghost use Rattle.dep_store.specs.HashingStores.{condition_of};
 
 use dep_files::Watch;

@@ -10,7 +10,7 @@ use Rattle.dep_octets.specs.declared.numbers.Number.TheVariants.{NotDigits, Abov
 use Rattle.std.proofs.lemmas.Option.{same_Some}
 use Rattle.std.specs.Str.Parse.{digits_value}
 use Rattle.dep_types.specs.Maps.{◌>>=◌}
-use Rattle.dep_types.specs.ServerLimits.{IsLimit}
+use Rattle.dep_types.specs.Limits.{IsLimit}
 use Rattle.dep_types.specs.Config as set_up
 use Rattle.dep_types.specs.declared.config.Config.{Config}
 use Rattle.dep_configuration.specs.Configured.{HasConfig}

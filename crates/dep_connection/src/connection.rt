@@ -84,13 +84,13 @@ fn converse<A: Archive, R: Inlet, W: Flush, C: FnMut() -> Moment>(
     incoming: &mut Incoming,
 ) -> Served
     requires { CanGoOn C.IsAlwaysCallable incoming.old.connection hub.old clock.old }
+    ensures flushed { IsFlushed (W.held writer.old) (W.has_failed writer.old)
+        → IsFlushed (W.held writer.new) (W.has_failed writer.new) }
     ensures talks { TalksUntil A.condition A.may_commit (MayShow W.Outlet W.held W.has_failed) C.step
         incoming.old.connection
         (standing R.Inlet W.Outlet W.held W.has_failed hub.old reader.old writer.old clock.old)
         (standing R.Inlet W.Outlet W.held W.has_failed hub.new reader.new writer.new clock.new)
         result }
-    ensures flushed { IsFlushed (W.held writer.old) (W.has_failed writer.old)
-        → IsFlushed (W.held writer.new) (W.has_failed writer.new) }
 {
     for count in 0..MOST_READS {
         if let Some(end) = turn(reader, writer, hub, clock, incoming) {

@@ -5,6 +5,7 @@ use Rattle.std.specs.Option.{option_map}
 use Rattle.std.proofs.lemmas.Bool.Decides.{nat_tests}
 use Rattle.std.proofs.lemmas.List.{append-nil}
 use Rattle.std.specs.Io.KnownBytes.{Appends}
+use Rattle.std.proofs.KnownBytes.{Appends-nil}
 use Rattle.std.proofs.lemmas.Bool.{eq-eqb, eqb-true}
 use Rattle.dep_types.specs.State.{State, File, file_at}
 use Rattle.dep_types.specs.declared.config.Config.{Config}
@@ -30,6 +31,8 @@ use Rattle.dep_hub.specs.declared.connections.Connection.{Connection}
 use Rattle.dep_hub.specs.declared.rest.Behind.{Behind}
 use Rattle.dep_hub.specs.declared.rest.Behind.TheVariants.{Nothing, Content, Broken}
 use Rattle.dep_hub.proofs.ConnectionLemmas.{index_some, intake_set}
+use Rattle.dep_hub.proofs.Leaving.{Settles}
+use Rattle.dep_hub.proofs.OwingLemmas.{few_none}
 
 some_not_none : (o : Option ℕ) → option_map suc o ≡ None → o ≡ None
 some_not_none None e = refl
@@ -176,6 +179,18 @@ module _ {A : Type 0} (condition : A → Condition) (old new : Hub A) (n : ℕ) 
     others = others_stay;
   }
 
+  -- nothing is left to be sent, and nothing is
+  pub sends_none : store_of condition new ≡ store_of condition old → Settles (store_of condition old) → behind_at old.connections.items n ≡ b
+      → (answer : SentOn) (taken : Option (List ℕ)) (failures : ℕ) → ((s : State) (owed : List ℕ) → IsOwed s b owed → IsPaid answer [] owed)
+      → is_content b ≡ is_part answer → SendsOn condition taken taken failures failures old new n answer
+  sends_none store settles is answer taken failures paid left =
+      sends_on b is answer taken taken failures failures [] (Appends-nil taken)
+      (λ honest s at owed owes. (owed, refl, paid s owed owes, owes))
+      (λ clean honest s at. subst (λ (x : Condition). Represents x s) (sym store) at)
+      (λ honest s at. subst (λ (x : Condition). Leaves x (λ found. found ≡ s)) (sym store) (settles s at))
+      (subst (λ (x : Condition). IfShut (store_of condition old) x (LeavesNoMore (store_of condition old) x)) (sym store) (λ disk none image may. (image, may, λ s. (λ h. h, λ h. h))))
+      (λ _. refl) left (few_none taken)
+
 -- one connection alone has something else behind its reply
 module _ (n i : ℕ) (old : List Connection) (c : Connection) (b : Behind) (index : index_of n old ≡ Some i) (item : c ≡ get_or old i c) where
   pub intakes_stay : (new : List Connection) → new ≡ set old i (record { number = c.number; intake = c.intake; behind = b })
@@ -207,13 +222,20 @@ behinds_back n i cs c e m = ap (λ (l : List Connection). behind_at l m) (set_he
 pub intakes_back : (i : ℕ) (cs : List Connection) (c : Connection) → c ≡ get_or cs i c → (m : ℕ) → intake_of (set cs i c) m ≡ intake_of cs m
 intakes_back i cs c e m = ap (λ (l : List Connection). intake_of l m) (set_here i cs c e)
 
--- nothing is sent, and what is owed stays so
-pub paid_nothing : (s : State) (b : Behind) (answer : SentOn) (owed : List ℕ) → IsPaid answer [] owed → IsOwed s b owed
-    → (rest : List ℕ) × (owed ≡ [] ++ rest) × IsPaid answer [] rest × IsOwed s b rest
-paid_nothing s b answer owed paid h = (owed, refl, paid, h)
-
-pub leaves_same : (store : Condition) (old : Condition) → LeavesNoMore store store
-leaves_same store old image may = (image, may, λ s. (λ h. h, λ h. h))
+-- what a connection is still to be sent stays, since nothing is left of it
+module _ {A : Type 0} (condition : A → Condition) (old new : Hub A) (n i : ℕ) (kept : Connection) (index : index_of n old.connections.items ≡ Some i)
+    (item : kept ≡ get_or old.connections.items i kept) (config : new.config ≡ old.config) (store : new.store ≡ old.store)
+    (changed : new.connections.items ≡ set old.connections.items i kept) (settles : Settles (condition old.store)) where
+  pub nothing_sent : (answer : SentOn) (taken : Option (List ℕ)) (failures : ℕ) → ((s : State) (owed : List ℕ) → IsOwed s kept.behind owed → IsPaid answer [] owed)
+      → is_content kept.behind ≡ is_part answer → SendsOn condition taken taken failures failures old new n answer
+  nothing_sent answer taken failures paid left =
+      let cs = old.connections.items in
+      let here = behind_some n i cs kept index item in
+      sends_none condition old new n (behind_at cs n) config
+      (λ m. ap (λ (l : List Connection). intake_of l m) changed ∙ intakes_back i cs kept item m)
+      (λ m. ap (λ (l : List Connection). behind_at l m) changed ∙ behinds_back n i cs kept item m)
+      (ap condition store) settles refl answer taken failures
+      (λ s owed owes. paid s owed (subst (λ (b : Behind). IsOwed s b owed) here owes)) (ap is_content here ∙ left)
 
 -- ---- by what stands behind each reply now
 

@@ -14,7 +14,7 @@ use Rattle.dep_decisions.specs.Laws.{has_file_in, takes_file}
 use Rattle.dep_decisions.proofs.FilesStay.{file_stays}
 use Rattle.dep_answers.specs.Steps.{step_by, operation_step}
 use Rattle.dep_answers.specs.declared.performed.StoredFile.{StoredFile}
-use Rattle.dep_message.specs.Asking.{IsNoNext}
+use Rattle.dep_message.specs.Showing.{IsNoNext}
 use Rattle.dep_message.specs.Places.{Place, Open, Reading, place_with}
 use Rattle.dep_message.proofs.OneReading.{one_at, one_spelling}
 use Rattle.dep_message.proofs.Reading.{first_more, reads_more}

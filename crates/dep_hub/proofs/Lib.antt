@@ -16,3 +16,4 @@ mod PendingLemmas
 mod LeastLemmas
 mod KeptLemmas
 pub mod PreparingLemmas
+mod LookLemmas

@@ -24,49 +24,29 @@ use Rattle.dep_hub.specs.declared.rest.Behind.{Behind}
 use Rattle.dep_hub.specs.declared.rest.Behind.TheVariants.{Nothing, Content, Broken, Waits, Prepares, Prepared}
 use Rattle.dep_hub.proofs.BehindLemmas.{either_false, or_parts}
 
--- ---- whether something is pending, where one connection changes
+-- ---- what is so with some connection, where one changes
 
-pub pending_push : (cs : List Connection) (d : Connection) → is_pending d.behind ≡ false → is_any_pending (cs ++ d ∷ []) ≡ is_any_pending cs
-pending_push [] d e = ap (λ (b : Bool). b || false) e
-pending_push (c ∷ cs) d e = ap (λ (b : Bool). is_pending c.behind || b) (pending_push cs d e)
+module _ (f : Behind → Bool) where
+  abbrev pub any_is : List Connection → Bool
+  any_is cs = list_any (λ (c : Connection). f c.behind) cs
 
-pub pending_set : (i : ℕ) (cs : List Connection) (c d : Connection) → c ≡ get_or cs i c → is_pending d.behind ≡ is_pending c.behind
-    → is_any_pending (set cs i d) ≡ is_any_pending cs
-pending_set i [] c d item e = refl
-pending_set zero (x ∷ cs) c d item e =
-    ap (λ (b : Bool). b || is_any_pending cs) (e ∙ ap (λ (y : Connection). is_pending y.behind) item)
-pending_set (suc i) (x ∷ cs) c d item e = ap (λ (b : Bool). is_pending x.behind || b) (pending_set i cs c d item e)
+  pub any_push : (cs : List Connection) (d : Connection) → f d.behind ≡ false → any_is (cs ++ d ∷ []) ≡ any_is cs
+  any_push [] d e = ap (λ (b : Bool). b || false) e
+  any_push (c ∷ cs) d e = ap (λ (b : Bool). f c.behind || b) (any_push cs d e)
 
-pub pending_unset : (i : ℕ) (cs : List Connection) (d : Connection) → is_pending d.behind ≡ false → is_any_pending cs ≡ false → is_any_pending (set cs i d) ≡ false
-pending_unset i [] d e none = refl
-pending_unset zero (x ∷ cs) d e none =
-    let p = or_parts (is_pending x.behind) (is_any_pending cs) none in
-    either_false (is_pending d.behind) (is_any_pending cs) e p.1
-pending_unset (suc i) (x ∷ cs) d e none =
-    let p = or_parts (is_pending x.behind) (is_any_pending cs) none in
-    either_false (is_pending x.behind) (is_any_pending (set cs i d)) p.0 (pending_unset i cs d e p.1)
+  pub any_set : (i : ℕ) (cs : List Connection) (c d : Connection) → c ≡ get_or cs i c → f d.behind ≡ f c.behind → any_is (set cs i d) ≡ any_is cs
+  any_set i [] c d item e = refl
+  any_set zero (x ∷ cs) c d item e = ap (λ (b : Bool). b || any_is cs) (e ∙ ap (λ (y : Connection). f y.behind) item)
+  any_set (suc i) (x ∷ cs) c d item e = ap (λ (b : Bool). f x.behind || b) (any_set i cs c d item e)
 
--- ---- so whether a request waits
-
-pub waiting_push : (cs : List Connection) (d : Connection) → is_waiting d.behind ≡ false → is_any_waiting (cs ++ d ∷ []) ≡ is_any_waiting cs
-waiting_push [] d e = ap (λ (b : Bool). b || false) e
-waiting_push (c ∷ cs) d e = ap (λ (b : Bool). is_waiting c.behind || b) (waiting_push cs d e)
-
-pub waiting_set : (i : ℕ) (cs : List Connection) (c d : Connection) → c ≡ get_or cs i c → is_waiting d.behind ≡ is_waiting c.behind
-    → is_any_waiting (set cs i d) ≡ is_any_waiting cs
-waiting_set i [] c d item e = refl
-waiting_set zero (x ∷ cs) c d item e =
-    ap (λ (b : Bool). b || is_any_waiting cs) (e ∙ ap (λ (y : Connection). is_waiting y.behind) item)
-waiting_set (suc i) (x ∷ cs) c d item e = ap (λ (b : Bool). is_waiting x.behind || b) (waiting_set i cs c d item e)
-
-pub waiting_unset : (i : ℕ) (cs : List Connection) (d : Connection) → is_waiting d.behind ≡ false → is_any_waiting cs ≡ false → is_any_waiting (set cs i d) ≡ false
-waiting_unset i [] d e none = refl
-waiting_unset zero (x ∷ cs) d e none =
-    let p = or_parts (is_waiting x.behind) (is_any_waiting cs) none in
-    either_false (is_waiting d.behind) (is_any_waiting cs) e p.1
-waiting_unset (suc i) (x ∷ cs) d e none =
-    let p = or_parts (is_waiting x.behind) (is_any_waiting cs) none in
-    either_false (is_waiting x.behind) (is_any_waiting (set cs i d)) p.0 (waiting_unset i cs d e p.1)
+  pub any_unset : (i : ℕ) (cs : List Connection) (d : Connection) → f d.behind ≡ false → any_is cs ≡ false → any_is (set cs i d) ≡ false
+  any_unset i [] d e none = refl
+  any_unset zero (x ∷ cs) d e none =
+      let p = or_parts (f x.behind) (any_is cs) none in
+      either_false (f d.behind) (any_is cs) e p.1
+  any_unset (suc i) (x ∷ cs) d e none =
+      let p = or_parts (f x.behind) (any_is cs) none in
+      either_false (f x.behind) (any_is (set cs i d)) p.0 (any_unset i cs d e p.1)
 
 -- then no content is awaited
 takes_none : (object file : ℕ) (b : Behind) → is_waiting b ≡ false → waits_to_take object file b ≡ false
@@ -165,11 +145,6 @@ not_waiting None = refl
 not_waiting (Some r) = refl
 
 -- ---- what is kept back
-
-pub kept_back_as : (cs : List Connection) (reading : Reading) (was is now next : Behind) → is ≡ was → next ≡ now → KeptBack cs reading was now
-    → KeptBack cs reading is next
-kept_back_as cs reading was is now next e f k =
-    subst (λ (b : Behind). KeptBack cs reading b next) (sym e) (subst (λ (b : Behind). KeptBack cs reading was b) (sym f) k)
 
 owed_as : (s : State) (was now : Behind) (owed : List ℕ) → now ≡ was → IsOwed s was owed → IsOwed s now owed
 owed_as s was now owed e h = subst (λ (b : Behind). IsOwed s b owed) (sym e) h

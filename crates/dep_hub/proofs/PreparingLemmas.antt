@@ -1,25 +1,23 @@
 -- Requests that are prepared, in steps.
-use Rattle.std.proofs.Common.{◌≡◌, ◌≢◌, ◌⊎◌, inl, inr, ℕ, suc, zero, ◌==◌, ◌+◌, ◌≤◌, ◌<◌, Bool, true, false, List, [], ◌∷◌, ◌++◌, length, get_or, set, Option, None, Some, Result, Ok, Err, IfOk, MatchResult, if◌then◌else◌, refl, sym, ap, subst, ◌∙◌, arith, append_assoc}
+use Rattle.std.proofs.Common.{◌≡◌, ◌≢◌, ◌⊎◌, inl, inr, ℕ, suc, zero, ◌==◌, ◌+◌, ◌≤◌, ◌<◌, Bool, true, false, List, [], ◌∷◌, ◌++◌, length, get_or, set, Option, None, Some, if◌then◌else◌, refl, sym, ap, subst, ◌∙◌, arith, append_assoc}
 use Rattle.std.proofs.lemmas.Bool.{cases_lt, cases_Bool, eq-eqb, eqb-true}
 use Rattle.std.proofs.lemmas.Bool.Decides.{nat_tests}
 use Rattle.std.specs.Option.{option_map}
-use Rattle.std.specs.declared.alloc.AllocError.{AllocError}
 use Rattle.dep_types.specs.State.{State}
 use Rattle.dep_types.specs.Conditions.{Condition}
 use Rattle.dep_types.specs.declared.config.Config.{Config}
 use Rattle.dep_message.specs.Giving.{HasFirstHead}
 use Rattle.dep_message.specs.Places.{Place, Open, Shut, Reading}
-use Rattle.dep_message.specs.Stream.{Item, Request, Fault, Continue, FirstAt}
+use Rattle.dep_message.specs.Stream.{Request, FirstAt}
 use Rattle.dep_message.specs.Working.{IsBegun}
 use Rattle.dep_message.specs.declared.message.Message.{Message}
 use Rattle.dep_message.proofs.Bodies.{begins_with_head}
-use Rattle.dep_message.proofs.OneReading.{one_at}
 use Rattle.dep_hub.specs.Archives.{KeepsEachState}
 use Rattle.dep_hub.specs.Claims.{is_content, is_pending, is_waiting}
 use Rattle.dep_hub.specs.Holding.{IsHeldAs}
 use Rattle.dep_hub.specs.Numbers.{index_of, Ascends}
 use Rattle.dep_hub.specs.Owing.{IsOwed}
-use Rattle.dep_hub.specs.Preparing.{BeginsToPrepare, MakesStepFor, goes_on, ends, HaveAtMost, is_preparing, names_uploads, steps_of, ReportsUploads}
+use Rattle.dep_hub.specs.Preparing.{MakesStepFor, goes_on, ends, HaveAtMost, is_preparing, steps_of}
 use Rattle.dep_hub.specs.Records.{Run, stops, stopped, first_world}
 use Rattle.dep_hub.specs.Representing.{intake_of, store_of}
 use Rattle.dep_hub.specs.RepresentsOwing.{KeptBack, unsent, prepares_still, begins_to_prepare, waits_still, begins_to_wait, lacks_memory, behind_at}
@@ -35,12 +33,6 @@ use Rattle.dep_hub.proofs.Leaving.{leaves_wider}
 use Rattle.dep_hub.proofs.LeastLemmas.{have_by_number}
 use Rattle.dep_hub.proofs.PendingLemmas.{true_false}
 
--- an item names uploads
-abbrev head_named : Item → Bool
-head_named (Request m) = names_uploads m.head
-head_named (Fault refusal head_only) = false
-head_named Continue = false
-
 -- a request that stands first begins with a head
 pub request_head : (limit : ℕ) (at next : Place) (m : Message) → FirstAt limit at (Request m) next → HasFirstHead at
 request_head limit (Open continued bytes) next m f =
@@ -50,15 +42,6 @@ request_head limit (Open continued bytes) next m f =
     (sym (f.whole ∙ (ap (λ (l : List ℕ). l ++ f.behind) h.whole ∙ append_assoc h.front f.spelled.body f.behind)))
     (begins_with_head limit continued h.front (f.spelled.body ++ f.behind) m.head f.spelled.frame begun)
 request_head limit Shut next m f = absurd f
-
--- what was told of it
-pub reports_named : (reading : Reading) (m : Message) (next : Place) (reported : Result Bool AllocError) → FirstAt reading.limit reading.place (Request m) next
-    → IfOk reported (λ named. named ≡ names_uploads m.head) → MatchResult reported (ReportsUploads reading) (λ _. HasFirstHead reading.place)
-reports_named reading m next (Ok true) first named = (m, next, first, sym named)
-reports_named reading m next (Ok false) first named = λ other after f.
-    let same = (one_at reading.limit reading.place (Request m) (Request other) next after first f).0 in
-    ap head_named (sym same) ∙ sym named
-reports_named reading m next (Err fault) first named = request_head reading.limit reading.place next m first
 
 -- ---- a connection whose next request is prepared
 
@@ -263,22 +246,6 @@ once cs reading was now (lacks_memory u f h e) p = absurd (prepared_as now e p)
 pub prepares_once : {A : Type 0} (condition : A → Condition) (old new : Hub A) → PreparesOnce condition old new
 prepares_once condition old new taken takes failures failures_after n k p =
     once old.connections.items k.reading (behind_at old.connections.items n) (behind_at new.connections.items n) k.why p
-
--- ---- a connection whose next request is kept back from now on
-
--- nothing is pending there before and then
-pub begun_idle : (reading : Reading) (was now : Behind) → BeginsToPrepare reading was now → is_pending now ≡ is_pending was
-begun_idle reading was now (first, inl named) = ap is_pending named.0 ∙ sym (ap is_pending first)
-begun_idle reading was now (first, inr short) = ap is_pending short.0 ∙ sym (ap is_pending first)
-
-pub begun_still : (reading : Reading) (was now : Behind) → BeginsToPrepare reading was now → is_waiting now ≡ is_waiting was
-begun_still reading was now (first, inl named) = ap is_waiting named.0 ∙ sym (ap is_waiting first)
-begun_still reading was now (first, inr short) = ap is_waiting short.0 ∙ sym (ap is_waiting first)
-
--- the same connection, with something else behind its reply
-pub set_behind : (cs : List Connection) (i : ℕ) (c d : Connection) (b : Behind) → d ≡ c
-    → set cs i (record { number = d.number; intake = d.intake; behind = b }) ≡ set cs i (record { number = c.number; intake = c.intake; behind = b })
-set_behind cs i c d b e = ap (λ (x : Connection). set cs i (record { number = x.number; intake = x.intake; behind = b })) e
 
 -- who has an index is there
 some_index : (o : Option ℕ) (i : ℕ) → option_map suc o ≡ Some i → (j : ℕ) × (o ≡ Some j)

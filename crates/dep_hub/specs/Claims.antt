@@ -75,6 +75,11 @@ is_in_the_way Neither behind = false
 abbrev pub has_to_wait : List Connection → Claim → Bool
 has_to_wait connections claim = list_any (λ c. is_in_the_way claim c.behind) connections
 
+-- a request that waits has to wait still
+abbrev pub waits_on : List Connection → Behind → Bool
+waits_on connections (Waits claim) = has_to_wait connections claim
+waits_on connections behind = false
+
 -- ---- hubs that have to look
 
 -- a content is being sent

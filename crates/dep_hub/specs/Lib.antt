@@ -17,4 +17,5 @@ pub mod Claims
 pub mod Preparing
 pub mod Owing
 pub mod RepresentsOwing
+pub mod Looks
 pub mod WorkingAhead

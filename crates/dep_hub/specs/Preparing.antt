@@ -6,9 +6,8 @@ use Rattle.dep_fields.specs.declared.field.Field.{Field}
 use Rattle.dep_fields.specs.declared.field.Field.TheVariants.{Value}
 use Rattle.dep_fields.specs.declared.kind.Kind.{Kind}
 use Rattle.dep_fields.specs.declared.kind.Kind.TheVariants.{References}
-use Rattle.dep_message.specs.Asking.{IsNoNext}
-use Rattle.dep_message.specs.Giving.{HasFirstHead}
 use Rattle.dep_message.specs.Places.{Place, Reading}
+use Rattle.dep_message.specs.Showing.{IsNoNext}
 use Rattle.dep_message.specs.Stream.{Request, FirstAt}
 use Rattle.dep_message.specs.declared.message.Message.{Message}
 use Rattle.dep_types.specs.Conditions.{Condition}
@@ -38,20 +37,9 @@ NamesUploads reading = (m : Message) × (next : Place)
 abbrev pub NamesNone : Reading → Type 0
 NamesNone reading = IsNoNext names_uploads reading.limit reading.place
 
--- whether it does
-abbrev pub ReportsUploads : Reading → Bool → Type 0
-ReportsUploads reading true = NamesUploads reading
-ReportsUploads reading false = NamesNone reading
-
 -- how many steps may be made for a request
 abbrev pub most_steps : ℕ
 most_steps = 16777216
-
--- It wasn't looked at before: it is prepared from now on, as it names uploads; or it isn't, since memory ran out.
-abbrev pub BeginsToPrepare : Reading → (was now : Behind) → Type 0
-BeginsToPrepare reading was now = (was ≡ Nothing)
-    × (((now ≡ Prepares most_steps) × NamesUploads reading)
-    ⊎ ((now ≡ Prepared) × HasFirstHead reading.place))
 
 -- it was looked at, before or now, and names none
 abbrev pub IsLookedAt : Reading → Behind → Type 0

@@ -3,10 +3,11 @@ use Rattle.std.specs.Prelude.{◌≤◌, Bool, true, false, ◌≡◌, ◌≢◌
 use Rattle.std.specs.Io.KnownBytes.{Appends, Keeps}
 use Rattle.dep_types.specs.State.{State}
 use Rattle.dep_types.specs.Conditions.{Condition, Represents, Leaves}
-use Rattle.dep_head.specs.Head.{HeadParts}
-use Rattle.dep_message.specs.Asking.{IsNoNext, HasNextHead}
 use Rattle.dep_message.specs.Giving.{HasFirstHead}
-use Rattle.dep_message.specs.Places.{Reading}
+use Rattle.dep_message.specs.Places.{Place, Reading}
+use Rattle.dep_message.specs.Showing.{IsNoNext}
+use Rattle.dep_message.specs.Stream.{FirstAt, Request}
+use Rattle.dep_message.specs.declared.message.Message.{Message}
 use Rattle.dep_hub.specs.Records.{Arrive, Record, Run, World, with_line}
 use Rattle.dep_hub.specs.Shut.{LeavesNoMore, IfShut}
 use Rattle.dep_hub.specs.Representing.{store_of, intake_of, IsClean, IsHonest}
@@ -18,7 +19,7 @@ use Rattle.dep_hub.specs.declared.claim.Claim.{Claim}
 use Rattle.dep_hub.specs.declared.claim.Claim.TheVariants.{Takes, Reads}
 use Rattle.dep_hub.specs.declared.claim.Files.{Files}
 use Rattle.dep_hub.specs.Claims.{claim_of, has_to_wait, is_any_pending, is_awaited_by, is_content, waits_to_take}
-use Rattle.dep_hub.specs.Preparing.{NamesNone, NamesUploads, is_preparing, most_steps}
+use Rattle.dep_hub.specs.Preparing.{IsLookedAt, NamesNone, NamesUploads, is_preparing, most_steps, names_uploads}
 use Rattle.dep_hub.specs.declared.sent_on.SentOn.{SentOn}
 use Rattle.dep_hub.specs.declared.sent_on.SentOn.TheVariants.{Part, All, Broken as BrokenOff}
 use Rattle.dep_hub.specs.declared.arrived.Arrived.{Arrived}
@@ -75,10 +76,12 @@ abbrev pub NextIsPrepared : {A : Type 0} → Hub A → (number : ℕ) → Type 0
 NextIsPrepared hub number = behind_at hub.connections.items number ≡ Nothing → (reading : Reading)
     → intake_of hub.connections.items number ≡ Some reading → NamesNone reading
 
--- the head of the next request has come whole, and this is its claim
-abbrev pub HasClaim : Reading → Claim → Type 0
-HasClaim reading claim =
-    (head : HeadParts) × HasNextHead reading.limit reading.place head × (claim ≡ claim_of head)
+-- The next request has come whole, and this is its claim; and if it wasn't looked at before, it names no
+-- uploads. So one that does is prepared before it waits.
+abbrev pub HasClaim : Reading → (was : Behind) → Claim → Type 0
+HasClaim reading was claim = (m : Message) × (next : Place)
+    × FirstAt reading.limit reading.place (Request m) next × (claim ≡ claim_of m.head)
+    × (was ≡ Nothing → names_uploads m.head ≡ false)
 
 -- why nothing is answered, by what was behind the last reply, and what is there then
 pub data KeptBack (connections : List Connection) (reading : Reading) (was now : Behind) : Type 0 where
@@ -93,15 +96,28 @@ pub data KeptBack (connections : List Connection) (reading : Reading) (was now :
   waits_still : (claim : Claim) → was ≡ Waits claim → now ≡ Waits claim
       → has_to_wait connections claim ≡ true → KeptBack connections reading was now
   -- its next request has to wait from now on
-  begins_to_wait : (claim : Claim) → IsReady was → HasClaim reading claim → now ≡ Waits claim
+  begins_to_wait : (claim : Claim) → IsReady was → HasClaim reading was claim → now ≡ Waits claim
       → has_to_wait connections claim ≡ true → KeptBack connections reading was now
   -- memory ran out as its next request was looked at, and it isn't prepared any more
   lacks_memory : IsReady was → (was ≡ Nothing) ⊎ (is_any_pending connections ≡ true)
       → HasFirstHead reading.place → now ≡ Prepared → KeptBack connections reading was now
 
 -- the next item of this connection may be answered
-abbrev pub IsAnswerable : List Connection → Connection → Type 0
-IsAnswerable connections c = IsReady c.behind × IsFree connections c.intake
+abbrev pub IsAnswerable : List Connection → Reading → Behind → Type 0
+IsAnswerable connections reading behind =
+    IsReady behind × IsFree connections reading × IsLookedAt reading behind
+
+-- so it is with the connection of this number
+abbrev pub NextIsAnswerable : List Connection → (number : ℕ) → Type 0
+NextIsAnswerable connections number = (reading : Reading)
+    → intake_of connections number ≡ Some reading
+    → IsAnswerable connections reading (behind_at connections number)
+
+-- it is not, and this is behind its last reply from now on
+abbrev pub NextIsKeptBack : List Connection → (number : ℕ) → Behind → Type 0
+NextIsKeptBack connections number now = (reading : Reading)
+    → intake_of connections number ≡ Some reading
+    → KeptBack connections reading (behind_at connections number) now
 
 -- ---- a hub
 

@@ -1,29 +1,16 @@
 -- What working ahead does to a hub, and how the preparing of requests ends.
 use Rattle.std.specs.Prelude.{◌≡◌, ◌≢◌, ◌⊎◌, ◌<◌, ◌≤◌, ◌+◌, ℕ, zero, suc, true, false, List, Option, Some}
 use Rattle.dep_types.specs.Conditions.{Condition}
-use Rattle.dep_message.specs.Places.{Reading}
 use Rattle.dep_hub.specs.Records.{World}
 use Rattle.dep_hub.specs.Archives.{KeepsEachState}
 use Rattle.dep_hub.specs.Representing.{store_of, intake_of, IsClean}
 use Rattle.dep_hub.specs.Holding.{RepresentsOn, StopsOn}
 use Rattle.dep_hub.specs.Claims.{is_content}
-use Rattle.dep_hub.specs.Preparing.{BeginsToPrepare as Begins, MakesStepFor, is_preparing, steps_of}
-use Rattle.dep_hub.specs.RepresentsOwing.{KeepsBack, OthersStay, RepresentsOwing, behind_at}
+use Rattle.dep_hub.specs.Preparing.{MakesStepFor, is_preparing, steps_of}
+use Rattle.dep_hub.specs.RepresentsOwing.{KeepsBack, RepresentsOwing, behind_at}
 use Rattle.dep_hub.specs.declared.rest.Behind.TheVariants.{Nothing, Broken}
 use Rattle.dep_hub.specs.declared.connections.Connection.{Connection}
 use Rattle.dep_hub.specs.declared.hub.Hub.{Hub}
-
--- the next request of a connection is kept back from now on, and nothing else changes
-pub record BeginsToPrepare {A : Type 0} (old new : Hub A) (number : ℕ) : Type 0 where
-  pub same_store : new.store ≡ old.store
-  pub same_config : new.config ≡ old.config
-  pub same_next : new.next ≡ old.next
-  pub intakes : (m : ℕ) → intake_of new.connections.items m ≡ intake_of old.connections.items m
-  pub others : OthersStay old new number
-  pub reading : Reading
-  pub there : intake_of old.connections.items number ≡ Some reading
-  pub why : Begins reading (behind_at old.connections.items number)
-      (behind_at new.connections.items number)
 
 -- A step is made for a connection whose next request is prepared, if there is such a one: for one of those for
 -- which the fewest were made.

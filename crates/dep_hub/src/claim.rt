@@ -1,12 +1,11 @@
 //! What requests have to do with contents that are sent in steps.
-ghost use Rattle.std.specs.Prelude.{◌≡◌};
+ghost use Rattle.std.specs.Prelude.{◌≡◌, IfOk};
 ghost use Rattle.dep_hub.specs.Claims as spec;
 ghost use Rattle.dep_hub.specs.Claims.{claim_by, claim_to, has_file, read_of, taken_of};
 
 use crate::site::Site;
 use dep_bag::file_number;
 use dep_head::Head;
-use dep_message::Question;
 use dep_router::Routed;
 use dep_types::{Method, Resource};
 use std::alloc::AllocError;
@@ -43,27 +42,15 @@ impl Files {
     }
 }
 
-/// Asks for the claim of a request.
-#[derive(Clone, Copy)]
-pub(crate) struct AskClaim<'a> {
-    pub site: &'a Site,
-}
-
-impl<'a> Question for AskClaim<'a> {
-    ghost use Rattle.dep_hub.specs.Claims.{claim_of};
-
-    type Answer = Claim;
-
-    ghost answer = { λ question head. claim_of head };
-
-    fn ask(&self, head: &Head) -> Result<Claim, AllocError> {
-        let site = self.site;
-        let path = String::from_str(site.alloc(), head.path())?;
-        let routed = site.routes.route(head.method(), path);
-        let claim = claim_for(&routed);
-        drop(routed);
-        Ok(claim)
-    }
+/// The claim of the request with this head. An `Err` is lack of memory.
+pub(crate) fn claim_of(site: &Site, head: &Head) -> Result<Claim, AllocError>
+    ensures { IfOk result (λ claim. claim ≡ spec.claim_of head.now) }
+{
+    let path = String::from_str(site.alloc(), head.path())?;
+    let routed = site.routes.route(head.method(), path);
+    let claim = claim_for(&routed);
+    drop(routed);
+    Ok(claim)
 }
 
 // The claim of what a request names.

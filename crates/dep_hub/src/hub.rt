@@ -1,5 +1,5 @@
 //! All connections, and the one store that they share.
-ghost use Rattle.std.specs.Prelude.{◌+◌, ◌≡◌, ◌≤◌, [], ◌∷◌, ◌++◌, List, length, MatchResult, IfOk, IfErr, OnErr, IfSome, None, IsErrOf, IsSome, ◌⊎◌, ◌≢◌};
+ghost use Rattle.std.specs.Prelude.{◌+◌, ◌≡◌, ◌≤◌, [], ◌∷◌, ◌++◌, List, length, MatchOption, MatchResult, IfOk, IfErr, OnErr, IfSome, None, IsErrOf, IsSome, ◌⊎◌, ◌≢◌};
 ghost use Rattle.dep_types.specs.State.{State};
 ghost use Rattle.dep_types.specs.Config.{IsChecked};
 ghost use Rattle.dep_types.specs.Conditions.{Represents, Leaves};
@@ -13,17 +13,17 @@ use crate::arrived::Arrived;
 use crate::connections::{ConnId, Connection, index_among};
 use crate::contents::InSteps;
 use crate::faults::{ConnectFault, HubFault};
-use crate::keeping::kept_back;
+use crate::keeping::{Look, look_at};
 use crate::next::Next;
 use crate::pending::{
-    is_any_pending, is_any_waiting, is_awaited, least_prepared, still_pending, still_waiting,
+    has_to_wait, is_any_pending, is_any_waiting, is_awaited, least_prepared, still_pending,
+    still_waiting, waits_on,
 };
 use crate::preparing::prepare;
 use crate::rest::{Behind, Rest, behind_of};
 use crate::sent_on::SentOn;
 use crate::serving::{Piece, give_up, serve, take_next};
 use crate::site::{Context, Site};
-use crate::uploads::looked_at;
 use dep_message::Intake;
 use dep_moment::Moment;
 use dep_types::{Config, ConfigFault, Outlet, StoreFault};
@@ -53,11 +53,11 @@ const LAST_NUMBER: u64 = 4_000_000_000_000_000_000;
 impl<A: Archive> Hub<A> {
     ghost use Rattle.dep_hub.specs.Representing.{RepresentsAfter, RepresentsAt, GoesOnFrom, GoesOnAs, IsHonest, KeepsStore, LeavesStore, LeavesItsState, store_of, Adds, Transition, ComesTo, intake_of};
     ghost use Rattle.dep_hub.specs.Holding.{HoldsOn, RestsOn, LineTransition, OffersTo, with_held};
-    ghost use Rattle.dep_hub.specs.RepresentsOwing.{behind_at, is_awaited_at, KeepsBack, NextIsFree, NextIsPrepared, RepliesOver, SendsOn};
+    ghost use Rattle.dep_hub.specs.RepresentsOwing.{behind_at, is_awaited_at, KeepsBack, NextIsAnswerable, NextIsFree, NextIsKeptBack, NextIsPrepared, RepliesOver, SendsOn};
     ghost use Rattle.dep_hub.specs.Claims.{is_content};
-    ghost use Rattle.dep_hub.specs.WorkingAhead.{BeginsToPrepare, RestsAhead};
+    ghost use Rattle.dep_hub.specs.WorkingAhead.{RestsAhead};
     ghost use Rattle.dep_hub.specs.Numbers.{index_of};
-    ghost use Rattle.std.specs.Prelude.{ℕ, Some, ◌==◌, ◌<◌, if◌then◌else◌, true, false};
+    ghost use Rattle.std.specs.Prelude.{ℕ, Option, Some, ◌==◌, ◌<◌, if◌then◌else◌, true, false};
     ghost use Rattle.dep_hub.specs.Archives.{KeepsAll, CommitsIfDue};
     ghost use Rattle.dep_hub.specs.Shut.{ReportsOpen};
     ghost use Rattle.dep_hub.specs.ArchiveCalls.{Asked, WorkedAhead, Runs, FailsToReport};
@@ -209,10 +209,9 @@ impl<A: Archive> Hub<A> {
     /// most, and the log is told of the request and the reply. The content of a file behind the reply is sent by
     /// `send_on`. While it isn't all sent, no further item is answered, and nothing changes: `None`.
     ///
-    /// So it is too where the next request has to wait. One that puts or deletes files waits for their contents
-    /// that are being sent, and from then on no GET of these files is answered before it, so they end. It waits
-    /// once it has come whole, or its head has where its body is in chunks. In that case no more of it need be
-    /// read while it waits: then it goes on, and each such wait ends with contents that were being sent.
+    /// So it is too where the next request has come whole and has to wait. One that puts or deletes files waits for their
+    /// contents that are being sent, and from then on no GET of these files is answered before it, so they end. While a
+    /// part of it alone has come it waits for nothing, and no GET waits for it.
     ///
     /// And so it is, before that, where the next request has come whole and names uploads: these are hashed first, by
     /// `work_ahead`, a part each time. Behind that it is answered, or waits as the others.
@@ -244,63 +243,72 @@ impl<A: Archive> Hub<A> {
         let Some(i) = index_among(self.connections.as_slice(), connection) else {
             return Some(Next::NoSuch);
         };
-        if self.begins_to_prepare(connection, i) {
+        if let Some(behind) = self.kept_back(connection, i) {
+            self.keep_back(connection, i, behind);
             return None;
         }
-        self.reply_at(connection, i, moment, out, log)
+        Some(self.answer_at(connection, i, moment, out, log))
     }
 
-    // Whether the next request of a connection is kept back from now on, as it names uploads, or memory runs out as it is
-    // looked at.
-    fn begins_to_prepare(&mut self, connection: ConnId, i: usize) -> bool
+    // What is behind the last reply of a connection from now on, if no further item is answered.
+    fn kept_back(&mut self, connection: ConnId, i: usize) -> Option<Behind>
         requires index { index_of connection self.old.connections.items ≡ Some i }
         requires within { i < length self.old.connections.items }
-        ensures begins { result ≡ true → BeginsToPrepare self.old self.new connection }
-        ensures same { result ≡ false → self.new ≡ self.old }
-        ensures looked { result ≡ false → NextIsPrepared self.old connection }
+        ensures same { self.new ≡ self.old }
+        ensures found { MatchOption result
+            (NextIsAnswerable self.old.connections.items connection)
+            (NextIsKeptBack self.old.connections.items connection) }
     {
-        let kept = &mut self.connections[i];
-        let Some(behind) = looked_at(self.config.alloc(), kept) else {
-            return false;
-        };
-        kept.behind = behind;
-        true
+        let kept = &self.connections[i];
+        if waits_on(self.connections.as_slice(), kept.behind) {
+            return Some(kept.behind);
+        }
+        match look_at(&self.config, self.is_busy, &mut self.connections[i]) {
+            Look::Kept(behind) => Some(behind),
+            Look::Free => None,
+            Look::Claims(claim) => {
+                if has_to_wait(self.connections.as_slice(), claim) {
+                    return Some(Behind::Waits(claim));
+                }
+                None
+            }
+        }
     }
 
-    // The same as `reply`, where the next request isn't to be prepared any more.
-    fn reply_at<O: Outlet, L: AccessLog>(
+    // Keeps the next request of a connection back: this is behind its last reply from now on.
+    fn keep_back(&mut self, connection: ConnId, i: usize, behind: Behind)
+        requires index { index_of connection self.old.connections.items ≡ Some i }
+        requires within { i < length self.old.connections.items }
+        requires kept { NextIsKeptBack self.old.connections.items connection behind }
+        ensures goes { GoesOnAs A.condition self.old self.new }
+        ensures there { IsSome (intake_of self.new.connections.items connection) }
+        ensures keeps { (taken : Option (List ℕ)) (failures : ℕ)
+            → KeepsBack A.condition taken taken failures failures self.old self.new connection }
+    {
+        self.connections[i].behind = behind;
+        self.is_busy = is_any_pending(self.connections.as_slice());
+        self.is_awaiting = is_any_waiting(self.connections.as_slice());
+    }
+
+    // Answers the next item of a connection, which isn't kept back.
+    fn answer_at<O: Outlet, L: AccessLog>(
         &mut self,
         connection: ConnId,
         i: usize,
         moment: Moment,
         out: &mut O,
         log: &mut L,
-    ) -> Option<Next>
+    ) -> Next
         requires index { index_of connection self.old.connections.items ≡ Some i }
         requires within { i < length self.old.connections.items }
+        requires free { NextIsAnswerable self.old.connections.items connection }
         ensures goes { GoesOnAs A.condition self.old self.new }
-        ensures there { (result ≢ Some Next.NoSuch)
+        ensures there { (result ≢ Next.NoSuch)
             × IsSome (intake_of self.new.connections.items connection) }
-        ensures later { result ≡ None
-            → KeepsBack A.condition (O.taken out.old) (O.taken out.new) (O.failures out.old) (O.failures out.new)
-            self.old self.new connection }
-        ensures free { IfSome result (λ _. NextIsFree self.old connection) }
-        ensures unbroken { IfSome result (λ _.
-            behind_at self.new.connections.items connection ≢ Behind.Broken) }
-        ensures replies { IfSome result (RepliesOver A.condition (O.taken out.old) (O.taken out.new)
-            (O.failures out.old) (O.failures out.new) self.old self.new connection moment) }
+        ensures unbroken { behind_at self.new.connections.items connection ≢ Behind.Broken }
+        ensures replies { RepliesOver A.condition (O.taken out.old) (O.taken out.new)
+            (O.failures out.old) (O.failures out.new) self.old self.new connection moment result }
     {
-        if let Some(behind) = kept_back(
-            &self.config,
-            self.connections.as_slice(),
-            self.is_busy,
-            &self.connections[i],
-        ) {
-            self.connections[i].behind = behind;
-            self.is_busy = is_any_pending(self.connections.as_slice());
-            self.is_awaiting = is_any_waiting(self.connections.as_slice());
-            return None;
-        }
         let kept = &mut self.connections[i];
         let context = Context {
             site: &self.config,
@@ -319,7 +327,7 @@ impl<A: Archive> Hub<A> {
         kept.behind = behind;
         self.is_busy = still_pending(self.connections.as_slice(), self.is_busy, behind);
         self.is_awaiting = still_waiting(self.connections.as_slice(), self.is_awaiting);
-        Some(next)
+        next
     }
 
     /// Whether a content is still to be sent to a connection.

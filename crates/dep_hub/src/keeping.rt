@@ -1,63 +1,144 @@
 //! Requests that are kept back.
-ghost use Rattle.std.specs.Prelude.{◌≡◌, None, IfSome};
+ghost use Rattle.std.specs.Prelude.{◌≡◌, ◌⊎◌, List, false, true, IfOk, MatchResult};
+ghost use Rattle.dep_message.specs.Giving.{HasFirstHead};
 ghost use Rattle.dep_hub.specs.Claims.{is_any_pending};
-ghost use Rattle.dep_hub.specs.RepresentsOwing.{IsAnswerable, IsFree, IsReady, KeptBack};
+ghost use Rattle.dep_hub.specs.Looks.{SeesHead, Shows, is_new, is_to_prepare as spec_is_to_prepare};
+ghost use Rattle.dep_hub.specs.RepresentsOwing.{IsReady};
+ghost use Rattle.dep_hub.specs.declared.connections.Connection.{Connection as AConnection};
+ghost use Rattle.dep_hub.specs.declared.rest.Behind.TheVariants.{Nothing};
 
-use crate::claim::AskClaim;
+use crate::claim::{Claim, claim_of};
 use crate::connections::Connection;
-use crate::pending::has_to_wait;
+use crate::preparing::MOST_STEPS;
 use crate::rest::Behind;
 use crate::site::Site;
-use std::alloc::AllocError;
+use crate::uploads::names_uploads;
+use dep_head::Head;
+use dep_message::{Intake, Message, Preview};
+use std::alloc::{AllocError, Global};
 
-/// What is behind the last reply of a connection, if no further item is answered now.
-pub(crate) fn kept_back(
-    site: &Site,
-    connections: &[Connection],
+/// What a look at the next request of a connection shows.
+#[derive(Clone, Copy)]
+pub(crate) enum Look {
+    /// Nothing is answered now, and this is behind the last reply.
+    Kept(Behind),
+    /// It is answered unless this claim has to wait.
+    Claims(Claim),
+    /// The next item may be answered.
+    Free,
+}
+
+/// Looks at a request.
+#[derive(Drop)]
+struct Looks<'a> {
+    site: &'a Site,
+    /// What is behind the last reply.
+    was: Behind,
     is_busy: bool,
-    connection: &Connection,
-) -> Option<Behind>
-    requires { is_busy ≡ is_any_pending connections.now }
-    ensures free { result ≡ None → IsAnswerable connections.now connection.now }
-    ensures kept { IfSome result (KeptBack connections.now
-        connection.now.intake connection.now.behind) }
+    look: Result<Look, AllocError>,
+}
+
+impl<'a> Preview for Looks<'a> {
+    ghost use Rattle.dep_hub.specs.Looks.{SeesHead};
+
+    ghost sees = { λ before after m. IfOk after.look (SeesHead before.was before.is_busy m.head) };
+
+    fn preview(&mut self, message: Message) -> Message {
+        self.look = look_for(self.site, self.was, self.is_busy, &message.head);
+        message
+    }
+}
+
+/// Looks at the next request of a connection. It is prepared where it names uploads and wasn't looked at before; and while
+/// nothing is being sent and no request waits, its claim isn't asked for.
+pub(crate) fn look_at(site: &Site, is_busy: bool, connection: &mut Connection) -> Look
+    ensures same { connection.new ≡ connection.old }
+    ensures shows { (connections : List AConnection) → is_busy ≡ is_any_pending connections
+        → Shows connections connection.old.intake connection.old.behind result }
 {
-    match connection.behind {
-        Behind::Content(_) | Behind::Broken | Behind::Prepares(_) => Some(connection.behind),
-        Behind::Nothing | Behind::Prepared => next_waits(site, connections, is_busy, connection),
-        Behind::Waits(claim) => {
-            if has_to_wait(connections, claim) {
-                return Some(connection.behind);
-            }
-            next_waits(site, connections, is_busy, connection)
+    let was = connection.behind;
+    match was {
+        Behind::Content(_) | Behind::Broken | Behind::Prepares(_) => Look::Kept(was),
+        Behind::Nothing => look_at_next(site, is_busy, was, &mut connection.intake),
+        Behind::Waits(_) | Behind::Prepared => {
+            look_again(site, is_busy, was, &mut connection.intake)
         }
     }
 }
 
-// The same where the next request may be looked at. While nothing is being sent and no request waits, it isn't.
-fn next_waits(
-    site: &Site,
-    connections: &[Connection],
-    is_busy: bool,
-    connection: &Connection,
-) -> Option<Behind>
-    requires busy { is_busy ≡ is_any_pending connections.now }
-    requires ready { IsReady connection.now.behind }
-    ensures free { result ≡ None → IsFree connections.now connection.now.intake }
-    ensures kept { IfSome result (KeptBack connections.now
-        connection.now.intake connection.now.behind) }
+// The same where the next request was looked at before.
+fn look_again(site: &Site, is_busy: bool, was: Behind, intake: &mut Intake) -> Look
+    requires ready { IsReady was }
+    requires seen { is_new was ≡ false }
+    ensures same { intake.new ≡ intake.old }
+    ensures shows { (connections : List AConnection) → is_busy ≡ is_any_pending connections
+        → Shows connections intake.old was result }
 {
     if !is_busy {
-        return None;
+        return Look::Free;
     }
-    match connection.intake.ask_next(&AskClaim { site }) {
-        Ok(Some(claim)) => {
-            if has_to_wait(connections, claim) {
-                return Some(Behind::Waits(claim));
-            }
-            None
-        }
-        Ok(None) => None,
-        Err(AllocError) => Some(Behind::Prepared),
+    look_at_next(site, is_busy, was, intake)
+}
+
+// Looks at the next request behind a reply that was all sent. Where memory runs out it isn't prepared any more.
+fn look_at_next(site: &Site, is_busy: bool, was: Behind, intake: &mut Intake) -> Look
+    requires ready { IsReady was }
+    requires asked { (was ≡ Nothing) ⊎ (is_busy ≡ true) }
+    ensures same { intake.new ≡ intake.old }
+    ensures shows { (connections : List AConnection) → is_busy ≡ is_any_pending connections
+        → Shows connections intake.old was result }
+{
+    match seen_of_next(site, is_busy, was, intake) {
+        Ok(look) => look,
+        Err(AllocError) => Look::Kept(Behind::Prepared),
+    }
+}
+
+// What is seen of the next request of an intake, where it has come whole. An `Err` is lack of memory.
+fn seen_of_next(
+    site: &Site,
+    is_busy: bool,
+    was: Behind,
+    intake: &mut Intake,
+) -> Result<Look, AllocError>
+    requires { IsReady was }
+    ensures same { intake.new ≡ intake.old }
+    ensures shows { MatchResult result
+        (λ look. (connections : List AConnection) → is_busy ≡ is_any_pending connections
+        → Shows connections intake.old was look)
+        (λ _. HasFirstHead intake.old.place) }
+{
+    let mut looks = Looks {
+        site,
+        was,
+        is_busy,
+        look: Ok(Look::Free),
+    };
+    if intake.preview(&mut looks)? {
+        looks.look
+    } else {
+        Ok(Look::Free)
+    }
+}
+
+// What is seen of a request at its head. An `Err` is lack of memory.
+fn look_for(site: &Site, was: Behind, is_busy: bool, head: &Head) -> Result<Look, AllocError>
+    ensures { IfOk result (SeesHead was is_busy head.now) }
+{
+    if is_to_prepare(site.alloc(), was, head)? {
+        return Ok(Look::Kept(Behind::Prepares(MOST_STEPS)));
+    }
+    if is_busy {
+        return Ok(Look::Claims(claim_of(site, head)?));
+    }
+    Ok(Look::Free)
+}
+
+fn is_to_prepare(alloc: Global, was: Behind, head: &Head) -> Result<bool, AllocError>
+    ensures { IfOk result (λ is. is ≡ spec_is_to_prepare was head.now) }
+{
+    match was {
+        Behind::Nothing => names_uploads(alloc, head),
+        _ => Ok(false),
     }
 }

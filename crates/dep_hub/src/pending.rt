@@ -109,6 +109,16 @@ pub(crate) fn has_to_wait(connections: &[Connection], claim: Claim) -> bool
         .any(|connection| is_in_the_way(claim, connection.behind))
 }
 
+/// Whether a request that waits has to wait still.
+pub(crate) fn waits_on(connections: &[Connection], behind: Behind) -> bool
+    ensures { result ≡ spec.waits_on connections.now behind }
+{
+    match behind {
+        Behind::Waits(claim) => has_to_wait(connections, claim),
+        _ => false,
+    }
+}
+
 fn is_in_the_way(claim: Claim, behind: Behind) -> bool
     ensures { result ≡ spec.is_in_the_way claim behind }
 {

@@ -15,7 +15,8 @@ use dep_tags::IfMatch;
 use dep_types::Target;
 use std::alloc::AllocError;
 
-/// How many steps may be made for a request. A step hashes a few megabytes, so these are far more than one needs.
+/// How many steps may be made for a request. A step hashes 16 blocks at most, a mebibyte, so these are far more than one
+/// needs.
 pub(crate) const MOST_STEPS: u32 = 16_777_216;
 
 /// Has an archive work ahead for a request.

@@ -8,6 +8,5 @@ pub mod Keeping
 pub mod Chunks
 pub mod BodyCases
 pub mod EverySpelling
-pub mod Asked
 pub mod Taking
 pub mod Shown

@@ -1,10 +1,9 @@
 -- What was found first is shown or taken.
 use Rattle.std.proofs.Common.{◌≡◌, ◌⊎◌, inl, inr, ℕ, Bool, true, false, List, ◌++◌, Some, refl, sym, ap, subst, ◌∙◌}
-use Rattle.dep_message.specs.Asking.{IsNoRequest}
 use Rattle.dep_message.specs.Giving.{Gives}
 use Rattle.dep_message.specs.Heads.{closes}
 use Rattle.dep_message.specs.Places.{Place, Open, Reading}
-use Rattle.dep_message.specs.Showing.{ShowsNext}
+use Rattle.dep_message.specs.Showing.{IsNoRequest, ShowsNext}
 use Rattle.dep_message.specs.Stream.{Fault, Continue, Request, FirstAt, Waits, after_item}
 use Rattle.dep_message.specs.Working.{Finds, IsItem, IsKnown, IsReadTo, Keeps, ShowsFound, bytes_with}
 use Rattle.dep_message.specs.declared.intake.Step.{Step}
@@ -16,10 +15,9 @@ use Rattle.dep_message.specs.declared.progress.Found.TheVariants as F
 use Rattle.dep_message.specs.declared.progress.Progress.{Progress}
 use Rattle.dep_message.specs.declared.progress.Progress.TheVariants.{Searched, Sized, Chunked, First}
 use Rattle.dep_message.specs.declared.unparsed.Unparsed.{Unparsed}
-use Rattle.dep_message.proofs.Asked.{continue_no, fault_no}
 use Rattle.dep_message.proofs.Bodies.{request_size}
 use Rattle.dep_message.proofs.Keeping.{keeps_fresh}
-use Rattle.dep_message.proofs.OneReading.{one_at, waits_none}
+use Rattle.dep_message.proofs.OneReading.{continue_request, fault_request, one_at, waits_none}
 
 -- where no item was found, none is complete
 pub waits_on : (limit : ℕ) (continued : Bool) (bytes : List ℕ) (progress : Progress) → IsReadTo limit continued bytes progress
@@ -45,10 +43,17 @@ shows_found sees before after limit continued used buffer (F.Message m) is shown
     subst (ShowsNext sees before after limit (Open continued (used ++ buffer))) (sym s.0)
     (m, after_item (Request m) used buffer, found_first limit continued used buffer m is, s.1)
 shows_found sees before after limit continued used buffer F.Continue is shown s =
-    subst (ShowsNext sees before after limit (Open continued (used ++ buffer))) (sym s.0)
-    (subst (λ (l : List ℕ). IsNoRequest limit (Open continued (l ++ buffer))) (sym is.0) (continue_no limit continued buffer is.1), s.1)
+    subst (ShowsNext sees before after limit (Open continued (used ++ buffer))) (sym s.0) (
+      subst (λ (l : List ℕ). IsNoRequest limit (Open continued (l ++ buffer))) (sym is.0)
+          (λ m next f. continue_request limit continued is.1.0 f.text is.1.1 f.behind m (sym is.1.2 ∙ f.whole) is.1.3 f.spelled),
+      s.1,
+    )
 shows_found sees before after limit continued used buffer (F.Fault refusal head_only) is shown s =
-    subst (ShowsNext sees before after limit (Open continued (used ++ buffer))) (sym s.0) (fault_no limit continued refusal head_only (used ++ buffer) is, s.1)
+    subst (ShowsNext sees before after limit (Open continued (used ++ buffer))) (sym s.0) (
+      λ m next f.
+          fault_request limit continued is.0 f.text is.1 f.behind m (sym is.2 ∙ f.whole) is.3 f.spelled,
+      s.1,
+    )
 
 -- what is shown of the bytes that are kept
 pub shows_kept : {X : Type 0} (sees : X → X → Message → Type 0) (before after : X) (limit : ℕ) (continued : Bool) (bytes : List ℕ) (unparsed : Unparsed)

@@ -2,6 +2,5 @@ pub mod Places
 pub mod Heads
 pub mod Stream
 pub mod Giving
-pub mod Asking
 pub mod Showing
 pub mod Working

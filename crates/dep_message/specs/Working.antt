@@ -7,7 +7,6 @@ use Rattle.dep_body.specs.Body.{IsPartOfBody}
 use Rattle.dep_body.specs.Feeding.{HasFed}
 use Rattle.dep_body.specs.declared.frame.Framing.{Framing}
 use Rattle.dep_body.specs.declared.frame.Framing.TheVariants.{Length, Chunked as InChunks}
-use Rattle.dep_message.specs.Asking.{ReportsNext}
 use Rattle.dep_message.specs.Giving.{Begins, BeginsWithHead}
 use Rattle.dep_message.specs.Heads.{is_due}
 use Rattle.dep_message.specs.Places.{Reading, Open, Shut}
@@ -170,10 +169,3 @@ abbrev pub FindsNext : (old : Unparsed) (bytes : List ℕ) (new : Unparsed)
 FindsNext old bytes new result =
     MatchResult result (Finds old.limit old.continued bytes new)
     (λ _. Keeps old.limit old.continued bytes new × BeginsWithHead bytes)
-
--- what is told of the head that stands first in these bytes: for lack of memory nothing is, and a head is there
-abbrev pub ReportsFirst : {X : Type 0} → (answer : HeadParts → X) → Unparsed → (bytes : List ℕ)
-    → Result (Option X) AllocError → Type 0
-ReportsFirst answer unparsed bytes result =
-    MatchResult result (ReportsNext answer unparsed.limit (Open unparsed.continued bytes))
-    (λ _. BeginsWithHead bytes)

@@ -1,7 +1,6 @@
 //! Takes the items of a connection's bytes, in whatever pieces these come.
 ghost use Rattle.std.specs.Prelude.{◌≡◌, ◌<◌, [], length, false, MatchResult, OnOk, OnErr};
 ghost use Rattle.dep_message.specs.Places.{Reading, Open, Shut, place_with, shut_reading, HasBytes};
-ghost use Rattle.dep_message.specs.Asking.{ReportsNext};
 ghost use Rattle.dep_message.specs.Giving.{Gives, HasFirstHead};
 ghost use Rattle.dep_message.specs.Showing.{ShowsNext};
 
@@ -9,7 +8,6 @@ use crate::heads::closes;
 use crate::message::Message;
 use crate::preview::Preview;
 use crate::progress::Found;
-use crate::question::Question;
 use crate::unparsed::Unparsed;
 use dep_types::Refusal;
 use std::alloc::{AllocError, Global};
@@ -105,19 +103,6 @@ impl Intake {
         } else {
             Standing::Closed
         };
-    }
-
-    /// What is answered for the head of the next request: where its body has a known length, once it has come
-    /// whole, and where that is in chunks, once its head has. Nothing is taken. An `Err` is lack of memory.
-    pub fn ask_next<Q: Question>(&self, question: &Q) -> Result<Option<Q::Answer>, AllocError>
-        ensures { MatchResult result
-            (ReportsNext (Q.answer question.now) self.now.limit self.now.place)
-            (λ _. HasFirstHead self.now.place) }
-    {
-        match self.standing {
-            Standing::Live => self.unparsed.ask_next(question),
-            Standing::Closed | Standing::Dead => Ok(None),
-        }
     }
 
     /// Shows the next request, where it has come whole, before `next` takes it, and returns whether one was shown. Nothing

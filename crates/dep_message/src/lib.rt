@@ -9,7 +9,6 @@ pub mod laws;
 mod message;
 mod preview;
 mod progress;
-mod question;
 mod unparsed;
 mod used;
 
@@ -17,4 +16,3 @@ pub use heads::{closes, is_without_body};
 pub use intake::{Intake, Step};
 pub use message::Message;
 pub use preview::Preview;
-pub use question::Question;

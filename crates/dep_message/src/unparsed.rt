@@ -5,7 +5,7 @@ ghost use Rattle.dep_message.specs.Heads.{is_head_only};
 ghost use Rattle.dep_message.specs.Places.{Open};
 ghost use Rattle.dep_message.specs.Showing.{ShowsNext};
 ghost use Rattle.dep_message.specs.Stream.{refusal_of};
-ghost use Rattle.dep_message.specs.Working.{HasLeft, FindsHead, IsAtHead, IsFound, IsReadOn, Keeps, Finds, FindsNext, ReadsOn, IsSearched, IsWorking, ReportsFirst, first_of, kept_bytes};
+ghost use Rattle.dep_message.specs.Working.{HasLeft, FindsHead, IsAtHead, IsReadOn, Keeps, Finds, FindsNext, ReadsOn, IsSearched, IsWorking, first_of, kept_bytes};
 ghost use Rattle.dep_message.specs.declared.progress.Progress.TheVariants.{Searched, Sized, Chunked};
 
 use crate::buffer::Buffer;
@@ -14,7 +14,6 @@ use crate::heads::{is_hashed_early, is_without_body};
 use crate::message::Message;
 use crate::preview::Preview;
 use crate::progress::{ChunkedRequest, FirstItem, Found, Progress, SizedRequest};
-use crate::question::Question;
 use crate::used::UsedBytes;
 use dep_body::{ChunkReader, Fed, FrameFault, Framing};
 use dep_fixity::HashedOctets;
@@ -118,82 +117,6 @@ impl Unparsed {
                 Ok(())
             }
         }
-    }
-
-    /// What is answered for the head of the first request, where that may be complete.
-    pub fn ask_next<Q: Question>(&self, question: &Q) -> Result<Option<Q::Answer>, AllocError>
-        requires { IsWorking self.now }
-        ensures { ReportsFirst (Q.answer question.now) self.now (kept_bytes self.now) result }
-    {
-        match &self.progress {
-            Progress::Searched(searched) => self.ask_searched(*searched, question),
-            Progress::Sized(request) => {
-                if request.behind.as_slice().len() < request.length {
-                    return Ok(None);
-                }
-                reported_of(&request.head, question)
-            }
-            Progress::Chunked(request) => reported_of(&request.head, question),
-            Progress::First(first) => self.ask_found(first, question),
-        }
-    }
-
-    // The same where this was found.
-    fn ask_found<Q: Question>(
-        &self,
-        first: &FirstItem,
-        question: &Q,
-    ) -> Result<Option<Q::Answer>, AllocError>
-        requires { IsFound self.now.limit self.now.continued self.now.buffer first.now }
-        ensures { ReportsFirst (Q.answer question.now) self.now
-            (first.now.used.items ++ self.now.buffer) result }
-    {
-        match &first.item {
-            Found::Message(message) => reported_of(&message.head, question),
-            Found::Continue => Ok(None),
-            Found::Fault(_, _) => Ok(None),
-        }
-    }
-
-    // The same where no head ends in so many bytes.
-    fn ask_searched<Q: Question>(
-        &self,
-        searched: usize,
-        question: &Q,
-    ) -> Result<Option<Q::Answer>, AllocError>
-        requires { IsSearched searched self.now.buffer }
-        ensures { ReportsFirst (Q.answer question.now) self.now self.now.buffer result }
-    {
-        let bytes = self.buffer.as_slice();
-        let front = SearchedBytes { bytes, searched };
-        match first_head(self.alloc, self.limit, self.continued, front)? {
-            FirstHead::Head(first) => self.ask_framed(first, question),
-            FirstHead::Continue => Ok(None),
-            FirstHead::Fault(_, _) => Ok(None),
-            FirstHead::Nothing => Ok(None),
-        }
-    }
-
-    // The same where this head stands first.
-    fn ask_framed<Q: Question>(
-        &self,
-        first: FramedHead,
-        question: &Q,
-    ) -> Result<Option<Q::Answer>, AllocError>
-        requires { FindsHead self.now.limit self.now.continued self.now.buffer
-            (FirstHead.Head first) }
-        ensures { ReportsFirst (Q.answer question.now) self.now self.now.buffer result }
-    {
-        let come = self.buffer.as_slice().len() - first.length;
-        if let Framing::Length(length) = first.framing {
-            if come < length as usize {
-                drop(first);
-                return Ok(None);
-            }
-        }
-        let reported = reported_of(&first.head, question);
-        drop(first);
-        reported
     }
 
     // Reads on where no head ends in so many bytes.
@@ -356,16 +279,6 @@ impl Unparsed {
         ensures { self.new ≡ record self.old { progress = progress } }
     {
         drop(mem::replace(&mut self.progress, progress));
-    }
-}
-
-// What is answered for a head.
-fn reported_of<Q: Question>(head: &Head, question: &Q) -> Result<Option<Q::Answer>, AllocError>
-    ensures { IfOk result (λ reported. reported ≡ Some (Q.answer question.now head.now)) }
-{
-    match question.ask(head) {
-        Ok(reported) => Ok(Some(reported)),
-        Err(AllocError) => Err(AllocError),
     }
 }
 

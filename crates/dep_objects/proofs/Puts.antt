@@ -7,7 +7,8 @@ use Rattle.std.specs.Ordering.{is_eq}
 use Rattle.sqlite.specs.declared.types.Value.TheVariants.{Int}
 use Rattle.sqlite_value.specs.Order.{Row, value_cmp}
 use Rattle.sqlite_trees.specs.Tree.{has_rowid, rowid, without_rowid}
-use Rattle.dep_types.specs.State.{State, Object, Texts}
+use Rattle.dep_types.specs.Maps.{Numbered}
+use Rattle.dep_types.specs.State.{State, Object, File, Texts}
 use Rattle.dep_types.specs.Sound.{IsSound}
 use Rattle.dep_types.specs.Rows.{object_row}
 use Rattle.dep_types.specs.declared.rows.ObjectRow.{ObjectRow}
@@ -64,6 +65,17 @@ module _ (s : State) (row : ObjectRow) where
       let free : row_at t.objects row.object ≡ None = object_found t s h row.object ∙ ap (option_map (object_stored row.object)) none in
       let same : with_object_row row t ≡ t = ap (λ rows. record t { objects = rows }) (kept (pos row.object) (stored_object row) t.objects refl free) in
       subst (λ x. TablesAre x s) (sym (after ∙ same)) h
+
+-- the row of an object makes the object, with its metadata and files
+pub row_is_of : (t : Tables) (s : State) (row : ObjectRow) (was o : Object) → row ≡ object_row row.object o → o.metadata ≡ was.metadata → o.files ≡ was.files
+    → TablesAre t (with_object s row.object (object_of row was.metadata was.files)) → TablesAre t (with_object s row.object o)
+row_is_of t s row was o is texts files are =
+    let n = row.object in
+    let same : object_of row was.metadata was.files ≡ o =
+    ap (λ (r : ObjectRow). object_of r was.metadata was.files) is
+    ∙ ap (λ (m : Texts). object_of (object_row n o) m was.files) (sym texts)
+    ∙ ap (λ (f : Numbered File). object_of (object_row n o) o.metadata f) (sym files) in
+    subst (λ (x : Object). TablesAre t (with_object s n x)) same are
 
 -- an object's metadata is deleted, and then its row
 pub object_gone : (t u v : Tables) (s : State) (n : ℕ) → TablesAre t s → files_at s.objects n ≡ finmap.empty → u ≡ record t { metadata = filter (λ r. not (has_number 1 n r)) t.metadata }

@@ -32,11 +32,14 @@ HasRow s row = Some row ≡ option_map (object_row row.object) (map.get s.object
 abbrev pub IsDescribed : State → ℕ → DescribedObject → Type 0
 IsDescribed s n found = Some found ≡ option_map (described_object n) (map.get s.objects n)
 
--- the state with the object of a row in place of this one, whose metadata and files it keeps
-abbrev pub with_row : State → ObjectRow → Object → State
-with_row s row o = with_object s row.object (object_of row o.metadata o.files)
+-- in place of an object's row, this one makes of it this object, with the metadata and files it had
+pub record Rewrites (s : State) (row : ObjectRow) (o : Object) : Type 0 where
+  pub was : Object
+  pub there : map.get s.objects row.object ≡ Some was
+  pub is_row : row ≡ object_row row.object o
+  pub metadata : o.metadata ≡ was.metadata
+  pub files : o.files ≡ was.files
 
--- where the object of the row is there, the state with the row in its place is so
+-- the state with such an object in its place is so
 abbrev pub PutsRow : ObjectRow → State → (becomes : State → Type 0) → Type 0
-PutsRow row s becomes = (o : Object) → map.get s.objects row.object ≡ Some o
-    → becomes (with_row s row o)
+PutsRow row s becomes = (o : Object) → Rewrites s row o → becomes (with_object s row.object o)

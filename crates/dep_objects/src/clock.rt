@@ -8,19 +8,11 @@ ghost use Rattle.dep_row_maps.specs.Clauses.{ReadsMaps, WritesMaps};
 use dep_tables::{StateRow, Statements, read_state, write_state};
 use dep_types::StoreFault;
 
-/// Returns the clock and the counters. It is a fault of the store where their row isn't there, or isn't one that
-/// `set_counters` writes.
+/// Reads the one row of the clock and the counters as those of the state. It is a fault of the store where their row isn't there, or isn't one that
+/// the tables can hold.
 pub fn counters<T: Statements>(tx: &mut T) -> Result<StateRow, StoreFault>
     ensures does { ReadsMaps T.lenders T.state tx.old tx.new result
         (λ s row. row ≡ state_row s) }
 {
     read_state(tx)
-}
-
-/// Sets the clock and the counters. A number of 2^63 or more is a fault of the store.
-pub fn set_counters<T: Statements>(tx: &mut T, row: &StateRow) -> Result<(), StoreFault>
-    ensures does { WritesMaps T.lenders T.state tx.old tx.new result
-        (λ s becomes. becomes (with_counters s row.now.clock row.now.next)) }
-{
-    write_state(tx, row)
 }

@@ -7,9 +7,8 @@ mod gathering;
 mod metadata;
 mod objects;
 
-pub use clock::{counters, set_counters};
+pub use clock::counters;
 pub use metadata::{append_metadata, set_metadata};
 pub use objects::{
-    DescribedObject, add_object, delete_object, describe, find_object, load_object, next_object,
-    put_object,
+    DescribedObject, add_object, delete_object, describe, find_object, load_object, put_object,
 };

@@ -4,7 +4,6 @@ ghost use Rattle.std.specs.Prelude.{◌≡◌, ◌<◌, ◌^◌, None, IfOk, OnO
 ghost use Rattle.std.specs.FinMap as map;
 ghost use Rattle.dep_types.specs.Rows.{object_row};
 ghost use Rattle.dep_types.specs.Sound.{IsSound};
-ghost use Rattle.dep_row_maps.specs.Keyed.{next_entry};
 ghost use Rattle.dep_row_maps.specs.TablesAre.{files_at, with_object, without_object};
 ghost use Rattle.dep_row_maps.specs.Clauses.{FromMaps, SeesState, ChangesMaps, Finds, ReadsMaps, WritesMaps};
 ghost use Rattle.dep_objects.specs.Objects.{HasRow, IsDescribed, object_of, described_object, PutsRow};
@@ -55,22 +54,13 @@ pub fn load_object<T: Statements>(
     Ok(Some(described))
 }
 
-/// The row of an object, without its metadata and files, if there is one. A number of 2^63 or more is a
+/// Reads an object of the state without its metadata and files: its row, if there is one. A number of 2^63 or more is a
 /// fault of the store.
 pub fn find_object<T: Statements>(tx: &mut T, object: u64) -> Result<Option<ObjectRow>, StoreFault>
     ensures does { ReadsMaps T.lenders T.state tx.old tx.new result
         (λ s found. found ≡ option_map (object_row object) (map.get s.objects object)) }
 {
     dep_tables::find_object(tx, object)
-}
-
-/// Returns the least number of an object above this one, if there is one. A number of 2^63 or more is a fault
-/// of the store.
-pub fn next_object<T: Statements>(tx: &mut T, after: u64) -> Result<Option<u64>, StoreFault>
-    ensures does { ReadsMaps T.lenders T.state tx.old tx.new result
-        (λ s found. found ≡ option_map (λ e. e.0) (next_entry s.objects after)) }
-{
-    dep_tables::next_object(tx, after)
 }
 
 /// Adds an object that has no metadata and no files. It is a fault of the store where there is one of this

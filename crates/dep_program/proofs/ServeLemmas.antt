@@ -6,7 +6,7 @@ use Rattle.std.specs.Prelude.{None}
 use Rattle.std.specs.List.{FoldsTo}
 use Rattle.dep_types.specs.Conditions.{Condition}
 use Rattle.dep_types.specs.declared.inlet.LastRead.TheVariants.{NoneYet}
-use Rattle.dep_hub.specs.Standing.{StandsAfter, ServesAs, IsClean}
+use Rattle.dep_hub.specs.Representing.{RepresentsAfter, ServesAs, IsClean}
 use Rattle.dep_connection.specs.Turns.{Turn, records_of, ArePieces}
 use Rattle.dep_connection.specs.Conversation.{Outflow, Wire, session, Clocks, Converses, ConversesOver}
 use Rattle.dep_connection.specs.declared.connection.Served.{Served}
@@ -35,7 +35,7 @@ module _ {A : Type 0} (condition : A → Condition) {C : Type 0} (ticks : C → 
     among = (0, refl);
     these = record {
       sizes = All-nil (λ (t : Conversation). ArePieces t.turns);
-      adds = λ clean first records h. subst (λ r. StandsAfter condition old first r) (sym (append-nil records)) h;
+      adds = λ clean first records h. subst (λ r. RepresentsAfter condition old first r) (sym (append-nil records)) h;
     };
     moments = refl;
   }
@@ -47,7 +47,7 @@ module _ {A : Type 0} (condition : A → Condition) {C : Type 0} (ticks : C → 
       among = (p.among.0 + 1, let e = p.among.1 in omega arith);
       these = record {
         sizes = p.these.sizes;
-        adds = λ clean first records h. subst (λ r. StandsAfter condition new first r) (append-nil (records ++ all_records_of p.talks))
+        adds = λ clean first records h. subst (λ r. RepresentsAfter condition new first r) (append-nil (records ++ all_records_of p.talks))
             (v.adds clean first (records ++ all_records_of p.talks) (p.these.adds (back clean) first records h));
       };
       moments = subst (λ c. Clocks ticks clock (all_turns_of p.talks) c) (sym v.same_clock) p.moments;
@@ -64,7 +64,7 @@ module _ {A : Type 0} (condition : A → Condition) {C : Type 0} (ticks : C → 
           these = record {
             sizes = All-append (λ (t : Conversation). ArePieces t.turns) p.talks (talk ∷ []) p.these.sizes
                 (All-cons (λ (t : Conversation). ArePieces t.turns) talk [] v.sizes (All-nil (λ (t : Conversation). ArePieces t.turns)));
-            adds = λ clean first records h. subst (λ r. StandsAfter condition new first r) (flat_map_more (λ (t : Conversation). records_of t.number t.turns) records p.talks talk)
+            adds = λ clean first records h. subst (λ r. RepresentsAfter condition new first r) (flat_map_more (λ (t : Conversation). records_of t.number t.turns) records p.talks talk)
                 (v.adds clean first (records ++ all_records_of p.talks) (p.these.adds (back clean) first records h));
           };
           moments = subst (λ turns. Clocks ticks clock turns later) (flat_map_more (λ (t : Conversation). t.turns) [] p.talks talk)

@@ -1,6 +1,6 @@
 //! A port of 127.0.0.1.
 ghost use Rattle.std.specs.Prelude.{◌≡◌};
-ghost use Rattle.dep_hub.specs.Standing.{IsClean, IsHonest};
+ghost use Rattle.dep_hub.specs.Representing.{IsClean, IsHonest};
 ghost use Rattle.dep_program.specs.Addresses.{IsLocal};
 ghost use Rattle.dep_program.specs.Serves.{ServesAt};
 

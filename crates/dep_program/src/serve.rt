@@ -1,5 +1,5 @@
 //! Connections over sockets, one after another.
-ghost use Rattle.dep_hub.specs.Standing.{ServesAs};
+ghost use Rattle.dep_hub.specs.Representing.{ServesAs};
 ghost use Rattle.dep_program.specs.Serves.{Serves, ServesOne};
 
 use crate::gathered::Gathered;

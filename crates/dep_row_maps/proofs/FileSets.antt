@@ -24,7 +24,8 @@ use Rattle.dep_row_maps.proofs.FilesOwn.{own-put, own-dropped, none_of, files_th
 use Rattle.dep_row_maps.proofs.Lens.{tied_not}
 use Rattle.dep_row_maps.proofs.Owners.{owners-delete, with_at}
 use Rattle.dep_row_maps.proofs.Sha512s.{sha512s-delete, with_values, values_of, values_replaced}
-use Rattle.dep_row_maps.proofs.Whole.{files_changed, texts_moved}
+use Rattle.dep_row_maps.proofs.Sides.{uploads_side, sides_changed}
+use Rattle.dep_row_maps.proofs.Whole.{files_changed, texts_moved, uploads_left}
 
 -- ---- all files of an object go
 
@@ -88,20 +89,12 @@ files_dropped t s h up n o there =
     let parts = rows_gone finmap.empty shown_block is_block_of one_owner block_rows block_rows-empty (finmap.keys o.files) t.blocks h.common.parts h.common.blocks in
     let values = rows_gone None shown_sha512 is_sha512_of one_owner sha512_rows refl (finmap.keys o.files) t.sha512s h.values h.sha512s in
     let one = λ (m f : ℕ) (a b : File). one_object t.files (files_at s.objects) (files_at s.objects) h.common.files up n m f a b in
-    with_values _ _ (record {
-      state = h.common.state;
+    with_values _ _ (sides_changed h.common parts.0 parts.1 (record {
       objects = h.common.objects ∙ sym same.0;
       metadata = texts_moved t.metadata (metadata_at s.objects) _ same.1 h.common.metadata;
       files = files-drop t.files (files_at s.objects) (files_at new) h.common.files up n (files_now s.objects n o finmap.empty) (files_else s.objects n o finmap.empty);
-      uploads = h.common.uploads;
-      segments = h.common.segments;
-      timed_out = h.common.timed_out;
-      format = h.common.format;
-      parts = parts.0;
-      blocks = parts.1;
-      files_parts = own_gone HasContent finmap.empty s.objects n o there h.common.parts parts.0 one parts.2 h.common.files_parts;
-      uploads_parts = λ u. parts.2.uploads u ∙ h.common.uploads_parts u;
-    }) (record {
+      own = own_gone HasContent finmap.empty s.objects n o there h.common.parts parts.0 one parts.2 h.common.files_parts;
+    }) (uploads_left t s h parts.0 parts.2.uploads)) (record {
       values = values.0;
       are = values.1;
       files = own_gone HasSha512 None s.objects n o there h.values values.0 one values.2 h.files_sha512s;
@@ -111,20 +104,12 @@ files_dropped t s h up n o there =
 -- ---- a file that is nowhere
 
 pub file_missed : FileMissed
-file_missed t s h up f nowhere = with_values _ _ (record {
-  state = h.common.state;
+file_missed t s h up f nowhere = with_values _ _ (sides_changed h.common h.common.parts (blocks-delete t.blocks h.common.parts h.common.parts h.common.blocks (owner.File f) (h.common.files_parts.of_none f nowhere) (λ q apart. refl)) (record {
   objects = h.common.objects;
   metadata = h.common.metadata;
   files = files-without t.files (files_at s.objects) (files_at s.objects) h.common.files up f (λ m. sym (remove-absent (files_at s.objects m) f (nowhere m)));
-  uploads = h.common.uploads;
-  segments = h.common.segments;
-  timed_out = h.common.timed_out;
-  format = h.common.format;
-  parts = h.common.parts;
-  blocks = blocks-delete t.blocks h.common.parts h.common.parts h.common.blocks (owner.File f) (h.common.files_parts.of_none f nowhere) (λ q apart. refl);
-  files_parts = h.common.files_parts;
-  uploads_parts = h.common.uploads_parts;
-}) (record {
+  own = h.common.files_parts;
+}) (uploads_side h.common)) (record {
   values = h.values;
   are = sha512s-delete t.sha512s h.values h.values h.sha512s (owner.File f) (h.files_sha512s.of_none f nowhere) (λ q apart. refl);
   files = h.files_sha512s;
@@ -158,19 +143,11 @@ file_replaced t s h up values_up n o there f was file at blocks parts are conten
     let at_n : finmap.get (files_at s.objects n) f ≡ Some was = ap (λ ys. finmap.get ys f) (files_there s.objects n o there) ∙ at in
     let free : (m : ℕ) → m ≢ n → finmap.get (files_at s.objects m) f ≡ None = λ m apart. none_of (finmap.get (files_at s.objects m) f) (λ x is. apart (one_object t.files (files_at s.objects) (files_at s.objects) h.common.files up m n f x was is at_n)) in
     let mid : FilesAre (without_rowid (pos f) t.files) (λ m. finmap.remove (files_at s.objects m) f) = files-without t.files (files_at s.objects) (λ m. finmap.remove (files_at s.objects m) f) h.common.files up f (λ m. refl) in
-    with_values _ _ (record {
-      state = h.common.state;
+    with_values _ _ (sides_changed h.common parts are (record {
       objects = h.common.objects ∙ sym same.0;
       metadata = texts_moved t.metadata (metadata_at s.objects) _ same.1 h.common.metadata;
       files = files-put (without_rowid (pos f) t.files) (λ m. finmap.remove (files_at s.objects m) f) (files_at new) mid (IsShaped-filter shape.Table _ t.files up) n f file (no_row (pos f) t.files)
           (files_now s.objects n o fs ∙ sym (inserted_over o.files f file) ∙ ap (λ ys. finmap.insert (finmap.remove ys f) f file) (sym (files_there s.objects n o there)))
           (λ m apart. files_else s.objects n o fs m apart ∙ sym (remove-absent (files_at s.objects m) f (free m apart)));
-      uploads = h.common.uploads;
-      segments = h.common.segments;
-      timed_out = h.common.timed_out;
-      format = h.common.format;
-      parts = parts;
-      blocks = are;
-      files_parts = own-put HasContent finmap.empty s.objects n o there h.common.parts parts f file free content (λ g apart. others (owner.File g) (other_file g f apart)) h.common.files_parts;
-      uploads_parts = λ u. others (owner.Upload u) (no_upload u f) ∙ h.common.uploads_parts u;
-    }) (values_replaced t.sha512s s.objects s.uploads (values_of t s h) n o there f values_up file free)
+      own = own-put HasContent finmap.empty s.objects n o there h.common.parts parts f file free content (λ g apart. others (owner.File g) (other_file g f apart)) h.common.files_parts;
+    }) (uploads_left t s h parts (λ u. others (owner.Upload u) (no_upload u f)))) (values_replaced t.sha512s s.objects s.uploads (values_of t s h) n o there f values_up file free)

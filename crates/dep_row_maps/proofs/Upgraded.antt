@@ -40,6 +40,7 @@ use Rattle.dep_row_maps.proofs.Files.{number_itself, equal_is, filters_swap}
 use Rattle.dep_row_maps.proofs.Orphans.{no_row}
 use Rattle.dep_row_maps.proofs.Rows.{found_row_of}
 use Rattle.dep_row_maps.proofs.Sha512s.{AreValuesOf, with_values}
+use Rattle.dep_row_maps.proofs.Sides.{rest_changed}
 
 -- values as their rows are shown
 abbrev rows_in : List FileSha512 → List Row
@@ -247,17 +248,6 @@ least_number s sound n f file there = go (finmap.get s.objects n) refl there
     go (Some o) is e = ((sound.objects n o is).files f file e).number_given.least
 
 pub tables_upgraded : TablesUpgraded
-tables_upgraded t s h sound up values numbered each = with_values _ _ (record {
-  format = version_set t.format older_version h.common.format;
-  state = h.common.state;
-  objects = h.common.objects;
-  metadata = h.common.metadata;
-  files = h.common.files;
-  uploads = h.common.uploads;
-  segments = h.common.segments;
-  timed_out = h.common.timed_out;
-  parts = h.common.parts;
-  blocks = h.common.blocks;
-  files_parts = h.common.files_parts;
-  uploads_parts = h.common.uploads_parts;
-}) (values_are s.objects t.files h.common.files up values numbered each (least_number s sound) s.uploads h.unpromised)
+tables_upgraded t s h sound up values numbered each =
+    with_values _ _ (rest_changed h.common our_version _ t.state t.timed_out s.clock s.next s.timed_out (version_set t.format older_version h.common.format) h.common.state h.common.timed_out)
+    (values_are s.objects t.files h.common.files up values numbered each (least_number s sound) s.uploads h.unpromised)

@@ -19,7 +19,8 @@ use dep_types::StoreFault;
 use sqlite::{Alter, Connection, Transaction};
 use std::alloc::Global;
 
-/// Does what a request asks for in the transaction, which goes on.
+/// Lends the transaction to `answer_operation` and takes it back, so that its clauses are bound to the connection here, once, and
+/// not at each end of `perform_request`.
 fn answer_within<S: Alter>(
     tx: &mut Transaction<'_, S>,
     alloc: Global,
@@ -36,7 +37,8 @@ fn answer_within<S: Alter>(
     answer_operation(&mut Lent { tx }, alloc, running, service, operation)
 }
 
-/// Does what a request asks for. The reply is made before the commit. Where nothing was changed the transaction is given back.
+/// Begins the transaction of a request, and ends it: it is committed, or given back where nothing was changed. The reply is made
+/// before the commit.
 /// A fault of the store, also of the commit, and lack of memory leave the tables as they were. What was hashed for it stays
 /// known, whatever is returned.
 pub fn perform_request<S: Alter>(

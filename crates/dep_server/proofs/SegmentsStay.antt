@@ -13,7 +13,7 @@ use Rattle.dep_decisions.specs.Effects.{effect, received_beside, with_segment}
 use Rattle.dep_decisions.specs.Laws.{posted_to}
 use Rattle.dep_decisions.specs.declared.operation.Operation.{Operation}
 use Rattle.dep_decisions.proofs.SegmentRequests.{effect_is, let_through, present}
-use Rattle.dep_decisions.proofs.Segments.{represents_then}
+use Rattle.dep_decisions.proofs.Segments.{stands_then}
 use Rattle.dep_answers.specs.Steps.{step_by, operation_step}
 use Rattle.dep_message.specs.Stream.{Request}
 use Rattle.dep_message.specs.declared.message.Message.{Message}
@@ -63,7 +63,7 @@ received_by config s op u k target kind accepted =
     (record {
       upload = with_segment s k op.content x.0;
       there = get-insert_same s.uploads u (with_segment s k op.content x.0);
-      received = represents_then x.0 k op.content (let_through config op u k target kind s x.0 accepted x.1) s;
+      received = stands_then x.0 k op.content (let_through config op u k target kind s x.0 accepted x.1) s;
     })
 
 accepted_by : (config : Config) (s : State) (op : Operation) (u k : ℕ) → op.target ≡ posted_to u → kind_of op ≡ Some (of.Segment k)

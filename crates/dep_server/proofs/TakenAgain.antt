@@ -16,7 +16,7 @@ use Rattle.dep_decisions.specs.Effects.{effect, with_segment}
 use Rattle.dep_decisions.specs.Laws.{posted_to}
 use Rattle.dep_decisions.specs.declared.operation.Operation.{Operation}
 use Rattle.dep_decisions.proofs.SegmentRequests.{accepted_again, effect_is, let_through, present}
-use Rattle.dep_decisions.proofs.Segments.{IsGood, in_range, let_through_is_good, good_passes, repeat_passes, represents_then}
+use Rattle.dep_decisions.proofs.Segments.{IsGood, in_range, let_through_is_good, good_passes, repeat_passes, stands_then}
 use Rattle.dep_answers.specs.Answers.{Answer, document_of, head_of}
 use Rattle.dep_answers.specs.Replies.{empty_answer, stored_text, unless_head_only}
 use Rattle.dep_answers.specs.Steps.{accepted_answer, answered_step, is_head, operation_step, sent_by, step_by}
@@ -182,7 +182,7 @@ module _ (config : Config) (m : Message) (u k : ℕ) (kind : kind_of (operation_
   still_passes x y passes (with_it s same) =
       let range = in_range x k m.content passes in
       ap (λ (z : Upload). segment_refusal z k m.content) same
-      ∙ repeat_passes (with_segment s k m.content x) k m.content (represents_then x k m.content passes s) range.0 range.1
+      ∙ repeat_passes (with_segment s k m.content x) k m.content (stands_then x k m.content passes s) range.0 range.1
 
   effect_at : (s : State) (x : Upload) → map.get s.uploads u ≡ Some x → map.get (effect config s sent).uploads u ≡ Some (with_segment s k m.content x)
   effect_at s x there =

@@ -1,10 +1,9 @@
 -- What taking rows out of a table, and putting changed rows in, comes to.
 use Rattle.std.proofs.Common.{◌≡◌, ◌⊎◌, inl, inr, ℤ, Bool, true, false, not, if◌then◌else◌, List, [], ◌∷◌, map, filter, refl, sym, ap, ap₂, subst, ◌∙◌, IsTrue, Ordering, Less, Equal, Greater, is_eq}
 use Rattle.std.proofs.lemmas.Bool.{cases_Bool}
-use Rattle.std.proofs.lemmas.Cmp.{tied_itself}
+use Rattle.std.proofs.lemmas.Cmp.{tied_itself, on_total}
 use Rattle.std.proofs.lemmas.List.Sorted.{list_any-IsPermutation, IsPermutation-sym}
-use Rattle.std.specs.Ordering.{ordering_reverse}
-use Rattle.std.specs.List.{AllByRecursion, list_any}
+use Rattle.std.specs.List.{list_any}
 use Rattle.std.specs.List.Sorted.{IsPermutation}
 use Rattle.sqlite.specs.Order.{Row}
 use Rattle.sqlite.specs.declared.types.Value.TheVariants.{Int}
@@ -20,26 +19,12 @@ use Rattle.sqlite_rules.proofs.ListLemmas.{all_has, all_from, some_has, some_fro
 use Rattle.sqlite_rules.proofs.TableLemmas.{int_is, put_all_has, put_all_keeps, put_all_adds}
 use Rattle.sqlite_rules.proofs.PlaceLemmas.{Tied, tied_same}
 use Rattle.dep_statements.specs.Rows.{IsOrdered}
+use Rattle.dep_statements.proofs.Sorted.{same_lists}
 use Rattle.dep_statements.proofs.Members.{has_mapped, mapped_from, permuted_from, filter_again}
-
-never_both : (a b : Row) → value_cmp (rowid a) (rowid b) ≡ Less → value_cmp (rowid b) (rowid a) ≡ Less → ⊥
-never_both a b p q = let e = value_cmp_total.antisymm (rowid a) (rowid b) ∙ ap ordering_reverse q in cc
 
 -- two tables with the same rows are one
 pub same_rows : (xs ys : List Row) → IsTable xs → IsTable ys → ((r : Row) → Has xs r → Has ys r) → ((r : Row) → Has ys r → Has xs r) → xs ≡ ys
-same_rows [] [] p q a b = refl
-same_rows [] (y ∷ ys) p q a b = absurd (b y (inl refl))
-same_rows (x ∷ xs) [] p q a b = absurd (a x (inl refl))
-same_rows (x ∷ xs) (y ∷ ys) p q a b =
-    let first : x ≡ y = elim (a x (inl refl)) [
-      | inl e ↦ e
-      | inr later ↦ elim (b y (inl refl)) [ inl e ↦ sym e | inr also ↦ absurd (never_both x y (all_has _ xs y p.0 also) (all_has _ ys x q.0 later)) ]
-    ] in
-    let past = λ (z : Row) (zs : List Row) (up : AllByRecursion (λ r. value_cmp (rowid z) (rowid r) ≡ Less) zs) (r : Row) (h : Has zs r) (e : r ≡ z).
-    let lower = rw e at (all_has _ zs r up h) in never_both z z lower lower in
-    ap₂ ◌∷◌ first (same_rows xs ys p.1 q.1
-    (λ r h. elim (a r (inr h)) [ inl e ↦ absurd (past x xs p.0 r h (e ∙ sym first)) | inr k ↦ k ])
-    (λ r h. elim (b r (inr h)) [ inl e ↦ absurd (past y ys q.0 r h (e ∙ first)) | inr k ↦ k ]))
+same_rows = same_lists (λ a b. value_cmp (rowid a) (rowid b)) (on_total rowid value_cmp_total)
 
 -- whether one of the rowids is the row's
 abbrev is_named : List ℤ → Row → Bool

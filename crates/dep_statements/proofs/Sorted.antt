@@ -76,7 +76,7 @@ module _ {X : Type 0} (cmp : X → X → Ordering) (total : IsTotalOrder cmp) wh
   never_both a b p q = let e = total.antisymm a b ∙ ap ordering_reverse q in cc
 
   -- two lists that rise and have the same elements are one
-  same_lists : (xs ys : List X) → IsAscending Below xs → IsAscending Below ys → ((r : X) → Has xs r → Has ys r) → ((r : X) → Has ys r → Has xs r) → xs ≡ ys
+  pub same_lists : (xs ys : List X) → IsAscending Below xs → IsAscending Below ys → ((r : X) → Has xs r → Has ys r) → ((r : X) → Has ys r → Has xs r) → xs ≡ ys
   same_lists [] [] p q a b = refl
   same_lists [] (y ∷ ys) p q a b = absurd (b y (inl refl))
   same_lists (x ∷ xs) [] p q a b = absurd (a x (inl refl))

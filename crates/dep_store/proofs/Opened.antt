@@ -8,7 +8,7 @@ use Rattle.sqlite.specs.Tree.{Trees}
 use Rattle.dep_types.specs.State.{State, empty_state}
 use Rattle.dep_types.proofs.EmptySound.{empty_sound}
 use Rattle.dep_tables.specs.Rows.{stored_format}
-use Rattle.dep_row_maps.proofs.Whole.{first_represents}
+use Rattle.dep_row_maps.proofs.Whole.{first_stands}
 use Rattle.dep_tables.specs.Schema.{our_schema, older_schema}
 use Rattle.dep_tables.specs.Tables.{Tables, tables_in, HasTablesOf, IsKnownSchema}
 use Rattle.dep_tables.specs.Versions.{our_version, older_version, HasVersion}
@@ -34,7 +34,7 @@ opened_stood old new found s finds (inr (t, holds, means)) =
 
 -- the tables of a new store represent the empty archive
 pub first_means : TablesRepresent first_tables empty_state
-first_means = record { are = first_represents (stored_format our_version ∷ []) refl; sound = empty_sound }
+first_means = record { are = first_stands (stored_format our_version ∷ []) refl; sound = empty_sound }
 
 -- between transactions a crash leaves what is there
 module _ (d : db.State) (settled : IsTrue d.is_open → IsSettled d) (between : IsTrue d.is_open → d.now ≡ d.committed) where

@@ -109,6 +109,7 @@ impl<S: Alter> Archive for HashingStore<S> {
         self.store.tick(config, moment)
     }
 
+    /// Notes what an answered request leaves to do later: an upload to be hashed, a long log to be copied.
     fn perform(
         &mut self,
         service: &Service,

@@ -163,8 +163,8 @@ impl<S: Alter> Store<S> {
         }
     }
 
-    /// Does what a request asks for, once the clock has gone on, in one transaction: what reads the
-    /// service document, by what is cached. The reply is made before the commit, so an `Err` changes
+    /// Answers a request by what is cached, where that is enough, and learns of each other answer what may be cached. The other
+    /// ones are done in one transaction, once the clock has gone on. The reply is made before the commit, so an `Err` changes
     /// nothing. Segments that were hashed before aren't hashed again, and what is hashed for the request stays known.
     pub fn perform(
         &mut self,

@@ -46,10 +46,7 @@ use Rattle.dep_tables.specs.Tables.{tables_of, IsOurs, Leads}
 use Rattle.dep_tables.proofs.Leading.{leads, blocks_at}
 use Rattle.dep_tables.proofs.Answered.{read_few, read_first}
 
-abbrev terms : List Term
-terms = lit Null ∷ col 0 0 ∷ col 0 1 ∷ col 0 2 ∷ col 0 3 ∷ col 0 4 ∷ []
-
-insert_is : Inserts our_schema insert_block_text 8 terms
+insert_is : Inserts our_schema insert_block_text 8 (lit Null ∷ col 0 0 ∷ col 0 1 ∷ col 0 2 ∷ col 0 3 ∷ col 0 4 ∷ [])
 unfolding understood everything
 insert_is = (refl, (refl, refl))
 
@@ -72,7 +69,7 @@ agrees k bytes id other same =
 pub inserts_block : (old new : State) (k : BlockKey) (bytes : List ℕ) (count : ℕ) → IsOurs old → ExecutesInside 0 insert_block_text (block_values k bytes) old new (Ok count)
     → Leads old new (record (tables_of old) { blocks = put_next (block_values k bytes) (tables_of old).blocks }) × (list_any (is_block k) (tables_of old).blocks ≡ false)
 inserts_block old new k bytes count ours h =
-    let made = inserts_next our_schema 8 10 blocks_at insert_block_text (block_values k bytes) old new ours.schema ours.trees.ordered.1.1.1.1.1.1.1.1.0 count h terms insert_is (block_values k bytes)
+    let made = inserts_next our_schema 8 10 blocks_at insert_block_text (block_values k bytes) old new ours.schema ours.trees.ordered.1.1.1.1.1.1.1.1.0 count h _ insert_is (block_values k bytes)
     (λ i. with_rowid Chosen (old.now.trees 10) (cast_null i ∷ cast_int (pos (kind_of k.owner)) i ∷ cast_int (pos (number_of k.owner)) i ∷ cast_int (pos k.at.part) i ∷ cast_int (pos k.at.place) i ∷ Blob bytes ∷ []) ∷ [])
     places key (is_block k) (agrees k bytes) in
     (leads old new 10 _ ours made.0 _ refl, made.1)
@@ -86,19 +83,13 @@ pub tests_owner : (o : BlockOwner) (row : Row) → passes (owner_values o) of_ow
 tests_owner o row =
     passes_two (owner_values o) row (equals (col 1 1) (col 0 0)) (equals (col 1 2) (col 0 1)) _ _ (holds_number (owner_values o) 0 (kind_of o) 1 row refl) (holds_number (owner_values o) 1 (number_of o) 2 row refl)
 
-delete_is : Deletes our_schema delete_blocks_text 8 10 of_owner
+pub delete_is : Deletes our_schema delete_blocks_text 8 10 of_owner
 unfolding understood everything
 delete_is = (refl, (refl, refl))
 
-pub deletes_blocks : (old new : State) (o : BlockOwner) (count : ℕ) → IsOurs old → ExecutesInside 0 delete_blocks_text (owner_values o) old new (Ok count)
-    → Leads old new (record (tables_of old) { blocks = filter (λ r. not (is_block_of o r)) (tables_of old).blocks })
-deletes_blocks old new o count ours h =
-    leads old new 10 _ ours
-    (deletes_where our_schema 8 10 blocks_at delete_blocks_text (owner_values o) old new ours.schema ours.trees.ordered.1.1.1.1.1.1.1.1.0 count h of_owner delete_is (is_block_of o) (tests_owner o)) _ refl
-
 -- ---- the blocks of a part before a place
 
-abbrev earlier : List Term
+abbrev pub earlier : List Term
 earlier = equals (col 1 1) (col 0 0) ∷ equals (col 1 2) (col 0 1) ∷ equals (col 1 3) (col 0 2) ∷ falls_below (col 1 4) (col 0 3) ∷ []
 
 and_true : (b : Bool) → (b && true) ≡ b
@@ -110,21 +101,15 @@ holds_below : (params : Row) (slot n at : ℕ) (row : Row) → column params slo
 holds_below params slot n at row is = ap (λ v. is_true (binary (Compare Lt Binary) (column row at) v)) is ∙ sym (and_true _) ∙ passes_below n at row
 
 -- with the parameters of a key, whatever follows them
-tests_earlier : (k : BlockKey) (more row : Row) → passes (key_values k ++ more) earlier row ≡ is_earlier_block k row
+pub tests_earlier : (k : BlockKey) (more row : Row) → passes (key_values k ++ more) earlier row ≡ is_earlier_block k row
 tests_earlier k more row =
     let params = key_values k ++ more in
     passes_four params row (equals (col 1 1) (col 0 0)) (equals (col 1 2) (col 0 1)) (equals (col 1 3) (col 0 2)) (falls_below (col 1 4) (col 0 3)) _ _ _ _ (holds_number params 0 (kind_of k.owner) 1 row refl) (holds_number params 1 (number_of k.owner) 2 row refl)
     (holds_number params 2 k.at.part 3 row refl) (holds_below params 3 k.at.place 4 row refl)
 
-delete_run_is : Deletes our_schema delete_run_text 8 10 earlier
+pub delete_run_is : Deletes our_schema delete_run_text 8 10 earlier
 unfolding understood everything
 delete_run_is = (refl, (refl, refl))
-
-pub deletes_run : (old new : State) (k : BlockKey) (count : ℕ) → IsOurs old → ExecutesInside 0 delete_run_text (key_values k) old new (Ok count)
-    → Leads old new (record (tables_of old) { blocks = filter (λ r. not (is_earlier_block k r)) (tables_of old).blocks })
-deletes_run old new k count ours h =
-    leads old new 10 _ ours
-    (deletes_where our_schema 8 10 blocks_at delete_run_text (key_values k) old new ours.schema ours.trees.ordered.1.1.1.1.1.1.1.1.0 count h earlier delete_run_is (is_earlier_block k) (tests_earlier k [])) _ refl
 
 -- ---- moves
 
@@ -166,10 +151,10 @@ moves_run old new k to count ours h =
 
 -- ---- reading a block
 
-abbrev of_key : List Term
+abbrev pub of_key : List Term
 of_key = equals (col 1 1) (col 0 0) ∷ equals (col 1 2) (col 0 1) ∷ equals (col 1 3) (col 0 2) ∷ equals (col 1 4) (col 0 3) ∷ []
 
-tests_key : (k : BlockKey) (row : Row) → passes (key_values k) of_key row ≡ is_block k row
+pub tests_key : (k : BlockKey) (row : Row) → passes (key_values k) of_key row ≡ is_block k row
 tests_key k row =
     let params = key_values k in
     passes_four params row (equals (col 1 1) (col 0 0)) (equals (col 1 2) (col 0 1)) (equals (col 1 3) (col 0 2)) (equals (col 1 4) (col 0 3)) _ _ _ _ (holds_number params 0 (kind_of k.owner) 1 row refl) (holds_number params 1 (number_of k.owner) 2 row refl)
@@ -178,14 +163,6 @@ tests_key k row =
 pub read_is : Asks our_schema read_block_text 10 of_key (col 1 5 ∷ []) [] no_limit
 unfolding understood everything
 read_is = record { names = _; is = refl; unlisted = refl; plain = (refl, refl) }
-
--- over any kind of value that reads as bytes
-pub reads_block : {B : Type 0} (bytes : B → List ℕ) (old new : State) (k : BlockKey) (found : Option B) → IsOurs old
-    → (rows : List Row) × Shown read_block_text (key_values k) old new rows × (map (λ b. Blob (bytes b) ∷ []) (option_to_list found) ≡ map (columns_from 0 1) rows)
-    → map bytes_in (filter (is_block k) (tables_of old).blocks) ≡ option_to_list (option_map (λ b. Blob (bytes b)) found)
-reads_block bytes old new k found ours read =
-    read_few (λ b. Blob (bytes b)) bytes_in found (filter (is_block k) (tables_of old).blocks) read.0
-    (selects_all our_schema read_block_text (key_values k) old ours.schema 10 blocks_at.own of_key _ (is_block k) (tests_key k) new [] read_is read.0 read.1) read.2
 
 -- ---- the first block
 

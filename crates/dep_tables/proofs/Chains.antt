@@ -2,10 +2,12 @@
 use Rattle.std.proofs.Common.{◌≡◌, ◌⊎◌, ℕ, List, inl, inr, IsTrue, Result, Ok, Err, OnOk, IsErr, refl, sym, subst, ◌∙◌, arith}
 use Rattle.std.specs.Prelude.{⊤}
 use Rattle.std.proofs.lemmas.Result.{IfOk-from_err, on_err_weaker}
-use Rattle.sqlite.specs.State.{State, HasCleanDisk, KeepsCommit, IsUnchanged, IsRolledBack, Survives}
+use Rattle.sqlite.specs.Order.{Row}
+use Rattle.sqlite.specs.State.{State, HasCleanDisk, KeepsCommit, IsUnchanged, IsRolledBack, Survives, Shown}
 use Rattle.sqlite.proofs.StateLemmas.{survives_then}
 use Rattle.sqlite.proofs.InsideLemmas.{keeps_then}
 use Rattle.sqlite.proofs.Callers.{unchanged_then}
+use Rattle.dep_statements.proofs.Asked.{shown_unchanged}
 use Rattle.dep_tables.specs.Clauses.{StaysWithin, ReadsWithin, MayReadWithin, AsksWithin, IsPlainIn}
 use Rattle.dep_tables.specs.Tables.{IsOurs, HasOurTables}
 use Rattle.dep_tables.proofs.Results.{if_ok, if_failed, ok_then, failed_as}
@@ -178,6 +180,17 @@ module _ {T L : Type 0} {lenders : T → L} {state : T → State} {old new : T} 
     same = λ clean ours. asks.same clean (plain ours);
     err = λ clean inside ours is_open. asks.err (plain ours) clean inside is_open;
   }
+
+  -- what showed rows keeps what a query does, whatever is made of them
+  pub asks_read : {sql : List ℕ} (params : Row) (rows : List Row) {A E B F : Type 0} {x : A} (r : Result B F) → StaysWithin {A = A} {E = E} lenders state old new (Ok x)
+      → (HasCleanDisk (state new) → Shown sql params (state old) (state new) rows) → AsksWithin lenders state sql old new r
+  asks_read {sql} params rows r stays shown =
+      let same = λ (clean : HasCleanDisk (state new)) (plain : IsPlainIn (state old) sql). shown_unchanged sql params (state old) (state new) plain rows (shown clean) in
+      record {
+        stays = stays_ok stays;
+        same = λ clean plain. if_ok r (same clean plain);
+        err = λ plain clean inside is_open. if_failed {P = IsUnchanged (state old) (state new) ⊎ IsRolledBack (state old) (state new)} r (inl (same clean plain));
+      }
 
 -- ---- nothing is asked
 

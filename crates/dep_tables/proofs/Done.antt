@@ -7,8 +7,8 @@ use Rattle.sqlite.specs.Listing.{understood}
 use Rattle.dep_types.specs.declared.store_fault.StoreFault.{StoreFault}
 use Rattle.dep_types.specs.declared.store_fault.StoreFault.TheVariants.{Store}
 use Rattle.dep_tables.specs.Schema.{our_schema}
-use Rattle.dep_tables.specs.Tables.{tables_of, IsOurs, Leads}
-use Rattle.dep_tables.specs.Clauses.{Statement, Query, Writes, Queries, RunsWithin, AsksWithin, FailsToRun, FailsWithRows, ShowsColumns}
+use Rattle.dep_tables.specs.Tables.{Tables, tables_of, IsOurs, Leads}
+use Rattle.dep_tables.specs.Clauses.{Statement, Query, Shows, Writes, Queries, RunsWithin, AsksWithin, FailsToRun, FailsWithRows, ShowsColumns}
 use Rattle.dep_tables.proofs.Results.{ok_then, if_then}
 use Rattle.dep_tables.proofs.Leading.{plain_here}
 use Rattle.dep_tables.proofs.Chains.{unchanged_itself, stays_put, reads_refused, plain_reads}
@@ -51,6 +51,17 @@ module _ {T L A : Type 0} {lenders : T → L} {state : T → State} {old new : T
     cause = λ _ clean inside. subst (λ values. IfErr result (FailsToRun s.text values (state old) (state new))) is (cause clean inside);
     keeps = keeps;
   }
+
+  -- the same of one that puts in what was not there
+  pub puts : (s : Statement) (lacks : Tables → Type 0) → RunsWithin lenders state old new result → s.storable → params ≡ s.values
+      → (HasCleanDisk (state new) → IsTrue (state old).in_transaction → OnOk result ((count : ℕ) × ExecutesInside 0 s.text params (state old) (state new) (Ok count)))
+      → (HasCleanDisk (state new) → IsTrue (state old).in_transaction → IfErr result (FailsToRun s.text params (state old) (state new)))
+      → ((count : ℕ) → IsOurs (state old) → ExecutesInside 0 s.text s.values (state old) (state new) (Ok count) → Leads (state old) (state new) (s.change (tables_of (state old))) × lacks (tables_of (state old)))
+      → Writes lenders state old new result s × Shows (state old) (state new) result lacks
+  puts s lacks keeps storable is ran cause makes = (
+    runs s storable is ran cause keeps (λ count ours done. (makes count ours done).0),
+    λ clean inside ours. ok_then result (ran clean inside) (λ done. (makes done.0 ours (subst (λ values. ExecutesInside 0 s.text values (state old) (state new) (Ok done.0)) is done.1)).1),
+  )
 
   -- the same of a query, by the columns of the rows that it shows
   pub asks : (q : Query A) (width : ℕ) {values : A → List Row} → q.storable → params ≡ q.values → IsPlain (understood our_schema q.text)

@@ -24,73 +24,46 @@ use Rattle.dep_tables.specs.Texts.{insert_file_text, delete_file_text, delete_fi
 use Rattle.dep_tables.specs.Rows.{stored_file, file_values, file_columns, shown_file}
 use Rattle.dep_tables.specs.Tables.{tables_of, IsOurs, Leads}
 use Rattle.dep_tables.proofs.Leading.{leads, files_at}
+use Rattle.dep_tables.proofs.OneTable.{of_number, of_column}
 use Rattle.dep_tables.proofs.Answered.{read_one, read_each}
 
-abbrev terms : List Term
-terms = col 0 0 ∷ lit Null ∷ col 0 1 ∷ col 0 2 ∷ col 0 3 ∷ col 0 4 ∷ col 0 5 ∷ col 0 6 ∷ col 0 7 ∷ col 0 8 ∷ col 0 9 ∷ []
-
-insert_is : Inserts our_schema insert_file_text 4 terms
+insert_is : Inserts our_schema insert_file_text 4 (col 0 0 ∷ lit Null ∷ col 0 1 ∷ col 0 2 ∷ col 0 3 ∷ col 0 4 ∷ col 0 5 ∷ col 0 6 ∷ col 0 7 ∷ col 0 8 ∷ col 0 9 ∷ [])
 unfolding understood everything
 insert_is = (refl, (refl, refl))
 
 pub inserts_file : (old new : State) (r : FileRow) (count : ℕ) → IsOurs old → ExecutesInside 0 insert_file_text (file_values r) old new (Ok count)
     → Leads old new (record (tables_of old) { files = put_row (stored_file r) (tables_of old).files }) × (row_at (tables_of old).files r.file ≡ None)
 inserts_file old new r count ours h =
-    let made = inserts_keyed our_schema 4 5 files_at insert_file_text (file_values r) old new ours.schema ours.trees.ordered.1.1.1.1.0 count h terms insert_is r.file (Null ∷ file_columns r)
+    let made = inserts_keyed our_schema 4 5 files_at insert_file_text (file_values r) old new ours.schema ours.trees.ordered.1.1.1.1.0 count h _ insert_is r.file (Null ∷ file_columns r)
     (λ i. with_rowid Chosen (old.now.trees 5) (cast_int (pos r.file) i ∷ cast_null i ∷ cast_int (pos r.object) i ∷ Text r.name ∷ Text r.media ∷ cast_int (pos r.size) i ∷ cast_int (pos r.tag) i ∷ cast_int (pos r.deposited) i
     ∷ cast_text_or_null (λ t. t) r.behalf i ∷ cast_int (pos (if r.by_reference then 1 else 0)) i ∷ Blob r.sha256 ∷ []) ∷ []) in
     (leads old new 5 _ ours made.0 _ refl, made.1)
 
-abbrev tests : List Term
-tests = equals (col 1 0) (col 0 0) ∷ []
-
-abbrev of_object : List Term
-of_object = equals (col 1 2) (col 0 0) ∷ []
-
-delete_is : Deletes our_schema delete_file_text 4 5 tests
+pub delete_is : Deletes our_schema delete_file_text 4 5 of_number
 unfolding understood everything
 delete_is = (refl, (refl, refl))
 
-pub deletes_file : (old new : State) (key count : ℕ) → IsOurs old → ExecutesInside 0 delete_file_text (Int (pos key) ∷ []) old new (Ok count)
-    → Leads old new (record (tables_of old) { files = without_rowid (pos key) (tables_of old).files })
-deletes_file old new key count ours h =
-    leads old new 5 _ ours
-    (deletes_keyed our_schema 4 5 files_at delete_file_text (Int (pos key) ∷ []) old new ours.schema ours.trees.ordered.1.1.1.1.0 count h tests delete_is (pos key) (λ row. passes_key key 0 row)) _ refl
-
-delete_all_is : Deletes our_schema delete_files_text 4 5 of_object
+pub delete_all_is : Deletes our_schema delete_files_text 4 5 (of_column 2)
 unfolding understood everything
 delete_all_is = (refl, (refl, refl))
 
-pub deletes_files : (old new : State) (number count : ℕ) → IsOurs old → ExecutesInside 0 delete_files_text (Int (pos number) ∷ []) old new (Ok count)
-    → Leads old new (record (tables_of old) { files = filter (λ r. not (has_number 2 number r)) (tables_of old).files })
-deletes_files old new number count ours h =
-    leads old new 5 _ ours
-    (deletes_where our_schema 4 5 files_at delete_files_text (Int (pos number) ∷ []) old new ours.schema ours.trees.ordered.1.1.1.1.0 count h of_object delete_all_is (has_number 2 number) (λ row. passes_key number 2 row)) _ refl
-
 -- ---- reading
 
-abbrev values : List Term
+abbrev pub values : List Term
 values = col 1 0 ∷ col 1 2 ∷ col 1 3 ∷ col 1 4 ∷ col 1 5 ∷ col 1 6 ∷ col 1 7 ∷ col 1 8 ∷ col 1 9 ∷ col 1 10 ∷ []
 
-pub find_is : Asks our_schema find_file_text 5 tests values [] no_limit
+pub find_is : Asks our_schema find_file_text 5 of_number values [] no_limit
 unfolding understood everything
 find_is = record { names = _; is = refl; unlisted = refl; plain = (refl, refl) }
-
-pub finds_file : (old new : State) (key : ℕ) (found : Option FileRow) → IsOurs old
-    → (rows : List Row) × Shown find_file_text (Int (pos key) ∷ []) old new rows × (map file_values (option_to_list found) ≡ map (columns_from 0 10) rows)
-    → option_map file_values found ≡ option_map shown_file (row_at (tables_of old).files key)
-finds_file old new key found ours read =
-    read_one file_values 10 shown_file (λ row. refl) found (row_at (tables_of old).files key) read.0
-    (selects_keyed our_schema find_file_text (Int (pos key) ∷ []) old ours.schema 5 files_at.own tests values new ours.trees.ordered.1.1.1.1.0 find_is (pos key) (λ row. passes_key key 0 row) read.0 read.1) read.2
 
 abbrev numbers_and_sha256s : List Term
 numbers_and_sha256s = col 1 0 ∷ col 1 10 ∷ []
 
-pub sha256s_are : Asks our_schema sha256s_of_text 5 of_object numbers_and_sha256s by_rowid no_limit
+pub sha256s_are : Asks our_schema sha256s_of_text 5 (of_column 2) numbers_and_sha256s by_rowid no_limit
 unfolding understood everything
 sha256s_are = record { names = _; is = refl; unlisted = refl; plain = (refl, refl) }
 
-pub list_is : Asks our_schema files_of_text 5 of_object values by_rowid no_limit
+pub list_is : Asks our_schema files_of_text 5 (of_column 2) values by_rowid no_limit
 unfolding understood everything
 list_is = record { names = _; is = refl; unlisted = refl; plain = (refl, refl) }
 
@@ -99,4 +72,4 @@ pub lists_files : (old new : State) (object : ℕ) (found : List FileRow) → Is
     → map file_values found ≡ map shown_file (filter (has_number 2 object) (tables_of old).files)
 lists_files old new object found ours read =
     read_each file_values 10 shown_file (λ row. refl) (filter (has_number 2 object) (tables_of old).files) read.0 found
-    (selects_in_order our_schema files_of_text (Int (pos object) ∷ []) old ours.schema 5 files_at.own of_object values (has_number 2 object) (λ row. passes_key object 2 row) new ours.trees.ordered.1.1.1.1.0 list_is read.0 read.1) read.2
+    (selects_in_order our_schema files_of_text (Int (pos object) ∷ []) old ours.schema 5 files_at.own (of_column 2) values (has_number 2 object) (λ row. passes_key object 2 row) new ours.trees.ordered.1.1.1.1.0 list_is read.0 read.1) read.2

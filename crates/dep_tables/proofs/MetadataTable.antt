@@ -23,20 +23,21 @@ use Rattle.dep_statements.specs.Rows.{has_number, put_next, columns_from, InOrde
 use Rattle.dep_statements.proofs.Values.{cast_int, cast_null}
 use Rattle.dep_statements.proofs.Tests.{equals_int, equals_text, passes_key}
 use Rattle.dep_statements.proofs.Unique.{IsKey}
-use Rattle.dep_statements.proofs.Written.{Inserts, Deletes, inserts_next, deletes_where}
+use Rattle.dep_statements.proofs.Written.{IsListed, Inserts, Deletes, inserts_next, deletes_where}
 use Rattle.dep_statements.proofs.Selected.{Asks, selects_sorted}
 use Rattle.dep_tables.specs.Schema.{our_schema, metadata_table}
 use Rattle.dep_tables.specs.Texts.{insert_metadata_text, delete_metadata_text, metadata_of_text}
 use Rattle.dep_tables.specs.Rows.{metadata_values, shown_metadata, has_metadata_key, by_name_and_place}
 use Rattle.dep_tables.specs.declared.metadata.MetadataRow.{MetadataRow}
 use Rattle.dep_tables.specs.Tables.{tables_of, IsOurs, Leads}
-use Rattle.dep_tables.proofs.Leading.{leads, metadata_at}
+use Rattle.dep_tables.proofs.Leading.{leads, listed}
+use Rattle.dep_tables.proofs.OneTable.{of_column}
 use Rattle.dep_tables.proofs.Answered.{read_in_order}
 
-abbrev terms : List Term
-terms = lit Null ∷ col 0 0 ∷ col 0 1 ∷ col 0 2 ∷ col 0 3 ∷ []
+abbrev pub metadata_at : IsListed our_schema 3 3
+metadata_at = listed 3 3 metadata_table refl (λ trees. refl)
 
-insert_is : Inserts our_schema insert_metadata_text 3 terms
+insert_is : Inserts our_schema insert_metadata_text 3 (lit Null ∷ col 0 0 ∷ col 0 1 ∷ col 0 2 ∷ col 0 3 ∷ [])
 unfolding understood everything
 insert_is = (refl, (refl, refl))
 
@@ -57,22 +58,13 @@ agrees r id other same =
 pub inserts_metadata : (old new : State) (r : MetadataRow) (count : ℕ) → IsOurs old → ExecutesInside 0 insert_metadata_text (metadata_values r) old new (Ok count)
     → Leads old new (record (tables_of old) { metadata = put_next (metadata_values r) (tables_of old).metadata }) × (list_any (has_metadata_key r) (tables_of old).metadata ≡ false)
 inserts_metadata old new r count ours h =
-    let made = inserts_next our_schema 3 3 metadata_at insert_metadata_text (metadata_values r) old new ours.schema ours.trees.ordered.1.1.1.0 count h terms insert_is (metadata_values r)
+    let made = inserts_next our_schema 3 3 metadata_at insert_metadata_text (metadata_values r) old new ours.schema ours.trees.ordered.1.1.1.0 count h _ insert_is (metadata_values r)
     (λ i. with_rowid Chosen (old.now.trees 3) (cast_null i ∷ cast_int (pos r.object) i ∷ Text r.name ∷ cast_int (pos r.place) i ∷ Text r.value ∷ []) ∷ []) places key (has_metadata_key r) (agrees r) in
     (leads old new 3 _ ours made.0 _ refl, made.1)
 
-abbrev of_owner : List Term
-of_owner = equals (col 1 1) (col 0 0) ∷ []
-
-delete_is : Deletes our_schema delete_metadata_text 3 3 of_owner
+pub delete_is : Deletes our_schema delete_metadata_text 3 3 (of_column 1)
 unfolding understood everything
 delete_is = (refl, (refl, refl))
-
-pub deletes_metadata : (old new : State) (number count : ℕ) → IsOurs old → ExecutesInside 0 delete_metadata_text (Int (pos number) ∷ []) old new (Ok count)
-    → Leads old new (record (tables_of old) { metadata = filter (λ r. not (has_number 1 number r)) (tables_of old).metadata })
-deletes_metadata old new number count ours h =
-    leads old new 3 _ ours
-    (deletes_where our_schema 3 3 metadata_at delete_metadata_text (Int (pos number) ∷ []) old new ours.schema ours.trees.ordered.1.1.1.0 count h of_owner delete_is (has_number 1 number) (λ row. passes_key number 1 row)) _ refl
 
 abbrev values : List Term
 values = col 1 1 ∷ col 1 2 ∷ col 1 3 ∷ col 1 4 ∷ []
@@ -80,7 +72,7 @@ values = col 1 1 ∷ col 1 2 ∷ col 1 3 ∷ col 1 4 ∷ []
 abbrev order : List (Term × Key)
 order = (col 1 2, rising) ∷ (col 1 3, rising) ∷ []
 
-pub list_is : Asks our_schema metadata_of_text 3 of_owner values order no_limit
+pub list_is : Asks our_schema metadata_of_text 3 (of_column 1) values order no_limit
 unfolding understood everything
 list_is = record { names = _; is = refl; unlisted = refl; plain = (refl, refl) }
 
@@ -89,6 +81,6 @@ pub lists_metadata : (old new : State) (object : ℕ) (found : List MetadataRow)
     → InOrder by_name_and_place (map shown_metadata (filter (has_number 1 object) (tables_of old).metadata)) (map metadata_values found)
 lists_metadata old new object found ours read =
     read_in_order metadata_values 4 shown_metadata (λ row. refl) by_name_and_place (filter (has_number 1 object) (tables_of old).metadata) read.0 found
-    (selects_sorted our_schema metadata_of_text (Int (pos object) ∷ []) old ours.schema 3 metadata_at.own of_owner values (has_number 1 object) (λ row. passes_key object 1 row) order by_name_and_place
+    (selects_sorted our_schema metadata_of_text (Int (pos object) ∷ []) old ours.schema 3 metadata_at.own (of_column 1) values (has_number 1 object) (λ row. passes_key object 1 row) order by_name_and_place
     (then_total (on_total (λ r. column r 1) value_cmp_total) (on_total (λ r. column r 2) value_cmp_total))
     (λ a b. ap (ordering_then (value_cmp (column a 2) (column b 2))) (then-Equal (value_cmp (column a 3) (column b 3)))) new list_is read.0 read.1) read.2

@@ -22,54 +22,37 @@ use Rattle.dep_statements.specs.Rows.{has_number, put_next, columns_from, InOrde
 use Rattle.dep_statements.proofs.Values.{cast_int, cast_null}
 use Rattle.dep_statements.proofs.Tests.{equals_int, passes_key}
 use Rattle.dep_statements.proofs.Unique.{IsKey}
-use Rattle.dep_statements.proofs.Written.{Inserts, Deletes, inserts_next, deletes_where}
+use Rattle.dep_statements.proofs.Written.{IsListed, Inserts, Deletes, inserts_next, deletes_where}
 use Rattle.dep_statements.proofs.Selected.{Asks, selects_sorted}
 use Rattle.dep_tables.specs.Schema.{our_schema, segments_table}
 use Rattle.dep_tables.specs.Texts.{insert_segment_text, delete_segments_text, segments_of_text}
 use Rattle.dep_tables.specs.Rows.{segment_values, shown_segment, has_segment_key, by_number}
 use Rattle.dep_tables.specs.declared.segments.SegmentRow.{SegmentRow}
 use Rattle.dep_tables.specs.Tables.{tables_of, IsOurs, Leads}
-use Rattle.dep_tables.proofs.Leading.{leads, segments_at}
+use Rattle.dep_tables.proofs.Leading.{leads, listed}
+use Rattle.dep_tables.proofs.OneTable.{of_column, two_agree}
 use Rattle.dep_tables.proofs.Answered.{read_in_order}
 
-abbrev terms : List Term
-terms = lit Null ∷ col 0 0 ∷ col 0 1 ∷ col 0 2 ∷ []
+abbrev pub segments_at : IsListed our_schema 6 7
+segments_at = listed 6 7 segments_table refl (λ trees. refl)
 
-insert_is : Inserts our_schema insert_segment_text 6 terms
+insert_is : Inserts our_schema insert_segment_text 6 (lit Null ∷ col 0 0 ∷ col 0 1 ∷ col 0 2 ∷ [])
 unfolding understood everything
 insert_is = (refl, (refl, refl))
 
-abbrev places : List ℕ
-places = 1 ∷ 2 ∷ []
-
-key : IsKey our_schema segments_table places
+key : IsKey our_schema segments_table (1 ∷ 2 ∷ [])
 key = record { name = codes "sqlite_autoindex_segments_1"; tree = 8; at = 1; listed = refl; guards_it = refl }
-
-agrees : (r : SegmentRow) (id : ℤ) (other : Row) → has_segment_key r other ≡ true → agree plain places other places (Int id ∷ segment_values r) ≡ true
-unfolding first_key
-agrees r id other same =
-    let parts = and_parts _ _ same in
-    and_from _ _ (equals_int (column other 1) (pos r.upload) ∙ parts.0) (and_from _ _ (equals_int (column other 2) (pos r.number) ∙ parts.1) refl)
 
 pub inserts_segment : (old new : State) (r : SegmentRow) (count : ℕ) → IsOurs old → ExecutesInside 0 insert_segment_text (segment_values r) old new (Ok count)
     → Leads old new (record (tables_of old) { segments = put_next (segment_values r) (tables_of old).segments }) × (list_any (has_segment_key r) (tables_of old).segments ≡ false)
 inserts_segment old new r count ours h =
-    let made = inserts_next our_schema 6 7 segments_at insert_segment_text (segment_values r) old new ours.schema ours.trees.ordered.1.1.1.1.1.1.0 count h terms insert_is (segment_values r)
-    (λ i. with_rowid Chosen (old.now.trees 7) (cast_null i ∷ cast_int (pos r.upload) i ∷ cast_int (pos r.number) i ∷ cast_int (pos r.size) i ∷ []) ∷ []) places key (has_segment_key r) (agrees r) in
+    let made = inserts_next our_schema 6 7 segments_at insert_segment_text (segment_values r) old new ours.schema ours.trees.ordered.1.1.1.1.1.1.0 count h _ insert_is (segment_values r)
+    (λ i. with_rowid Chosen (old.now.trees 7) (cast_null i ∷ cast_int (pos r.upload) i ∷ cast_int (pos r.number) i ∷ cast_int (pos r.size) i ∷ []) ∷ []) (1 ∷ 2 ∷ []) key (has_segment_key r) (two_agree r.upload r.number (Int (pos r.size) ∷ [])) in
     (leads old new 7 _ ours made.0 _ refl, made.1)
 
-abbrev of_owner : List Term
-of_owner = equals (col 1 1) (col 0 0) ∷ []
-
-delete_is : Deletes our_schema delete_segments_text 6 7 of_owner
+pub delete_is : Deletes our_schema delete_segments_text 6 7 (of_column 1)
 unfolding understood everything
 delete_is = (refl, (refl, refl))
-
-pub deletes_segments : (old new : State) (number count : ℕ) → IsOurs old → ExecutesInside 0 delete_segments_text (Int (pos number) ∷ []) old new (Ok count)
-    → Leads old new (record (tables_of old) { segments = filter (λ r. not (has_number 1 number r)) (tables_of old).segments })
-deletes_segments old new number count ours h =
-    leads old new 7 _ ours
-    (deletes_where our_schema 6 7 segments_at delete_segments_text (Int (pos number) ∷ []) old new ours.schema ours.trees.ordered.1.1.1.1.1.1.0 count h of_owner delete_is (has_number 1 number) (λ row. passes_key number 1 row)) _ refl
 
 abbrev values : List Term
 values = col 1 1 ∷ col 1 2 ∷ col 1 3 ∷ []
@@ -77,7 +60,7 @@ values = col 1 1 ∷ col 1 2 ∷ col 1 3 ∷ []
 abbrev order : List (Term × Key)
 order = (col 1 2, rising) ∷ []
 
-pub list_is : Asks our_schema segments_of_text 7 of_owner values order no_limit
+pub list_is : Asks our_schema segments_of_text 7 (of_column 1) values order no_limit
 unfolding understood everything
 list_is = record { names = _; is = refl; unlisted = refl; plain = (refl, refl) }
 
@@ -86,5 +69,5 @@ pub lists_segments : (old new : State) (upload : ℕ) (found : List SegmentRow) 
     → InOrder by_number (map shown_segment (filter (has_number 1 upload) (tables_of old).segments)) (map segment_values found)
 lists_segments old new upload found ours read =
     read_in_order segment_values 3 shown_segment (λ row. refl) by_number (filter (has_number 1 upload) (tables_of old).segments) read.0 found
-    (selects_sorted our_schema segments_of_text (Int (pos upload) ∷ []) old ours.schema 7 segments_at.own of_owner values (has_number 1 upload) (λ row. passes_key upload 1 row) order by_number
+    (selects_sorted our_schema segments_of_text (Int (pos upload) ∷ []) old ours.schema 7 segments_at.own (of_column 1) values (has_number 1 upload) (λ row. passes_key upload 1 row) order by_number
     (on_total (λ r. column r 1) value_cmp_total) (λ a b. then-Equal (value_cmp (column a 2) (column b 2))) new list_is read.0 read.1) read.2

@@ -25,55 +25,30 @@ use Rattle.dep_tables.specs.Texts.{insert_sha512_text, delete_sha512_text, find_
 use Rattle.dep_tables.specs.declared.owner.BlockOwner.{BlockOwner}
 use Rattle.dep_tables.specs.Rows.{kind_of, number_of, owner_values, sha512_values, is_sha512_of, value_in}
 use Rattle.dep_tables.specs.Tables.{tables_of, IsOurs, Leads}
+use Rattle.dep_tables.proofs.OneTable.{two_agree}
 use Rattle.dep_tables.proofs.Leading.{leads, sha512s_at}
 use Rattle.dep_tables.proofs.BlocksTable.{of_owner, tests_owner}
 use Rattle.dep_tables.proofs.Answered.{read_few}
 
-abbrev terms : List Term
-terms = lit Null ∷ col 0 0 ∷ col 0 1 ∷ col 0 2 ∷ []
-
-insert_is : Inserts our_schema insert_sha512_text 9 terms
+insert_is : Inserts our_schema insert_sha512_text 9 (lit Null ∷ col 0 0 ∷ col 0 1 ∷ col 0 2 ∷ [])
 unfolding understood everything
 insert_is = (refl, (refl, refl))
 
-abbrev places : List ℕ
-places = 1 ∷ 2 ∷ []
-
-key : IsKey our_schema sha512s_table places
+key : IsKey our_schema sha512s_table (1 ∷ 2 ∷ [])
 key = record { name = codes "sqlite_autoindex_sha512s_1"; tree = 13; at = 3; listed = refl; guards_it = refl }
-
-agrees : (o : BlockOwner) (value : List ℕ) (id : ℤ) (other : Row) → is_sha512_of o other ≡ true → agree plain places other places (Int id ∷ sha512_values o value) ≡ true
-unfolding first_key
-agrees o value id other same =
-    let two = and_parts _ _ same in
-    and_from _ _ (equals_int (column other 1) (pos (kind_of o)) ∙ two.0) (and_from _ _ (equals_int (column other 2) (pos (number_of o)) ∙ two.1) refl)
 
 pub inserts_sha512 : (old new : State) (o : BlockOwner) (value : List ℕ) (count : ℕ) → IsOurs old → ExecutesInside 0 insert_sha512_text (sha512_values o value) old new (Ok count)
     → Leads old new (record (tables_of old) { sha512s = put_next (sha512_values o value) (tables_of old).sha512s }) × (list_any (is_sha512_of o) (tables_of old).sha512s ≡ false)
 inserts_sha512 old new o value count ours h =
-    let made = inserts_next our_schema 9 12 sha512s_at insert_sha512_text (sha512_values o value) old new ours.schema ours.trees.ordered.1.1.1.1.1.1.1.1.1.0 count h terms insert_is (sha512_values o value)
+    let made = inserts_next our_schema 9 12 sha512s_at insert_sha512_text (sha512_values o value) old new ours.schema ours.trees.ordered.1.1.1.1.1.1.1.1.1.0 count h _ insert_is (sha512_values o value)
     (λ i. with_rowid Chosen (old.now.trees 12) (cast_null i ∷ cast_int (pos (kind_of o)) i ∷ cast_int (pos (number_of o)) i ∷ Blob value ∷ []) ∷ [])
-    places key (is_sha512_of o) (agrees o value) in
+    (1 ∷ 2 ∷ []) key (is_sha512_of o) (two_agree (kind_of o) (number_of o) (Blob value ∷ [])) in
     (leads old new 12 _ ours made.0 _ refl, made.1)
 
-delete_is : Deletes our_schema delete_sha512_text 9 12 of_owner
+pub delete_is : Deletes our_schema delete_sha512_text 9 12 of_owner
 unfolding understood everything
 delete_is = (refl, (refl, refl))
-
-pub deletes_sha512 : (old new : State) (o : BlockOwner) (count : ℕ) → IsOurs old → ExecutesInside 0 delete_sha512_text (owner_values o) old new (Ok count)
-    → Leads old new (record (tables_of old) { sha512s = filter (λ r. not (is_sha512_of o r)) (tables_of old).sha512s })
-deletes_sha512 old new o count ours h =
-    leads old new 12 _ ours
-    (deletes_where our_schema 9 12 sha512s_at delete_sha512_text (owner_values o) old new ours.schema ours.trees.ordered.1.1.1.1.1.1.1.1.1.0 count h of_owner delete_is (is_sha512_of o) (tests_owner o)) _ refl
 
 pub find_is : Asks our_schema find_sha512_text 12 of_owner (col 1 3 ∷ []) [] no_limit
 unfolding understood everything
 find_is = record { names = _; is = refl; unlisted = refl; plain = (refl, refl) }
-
--- over any kind of value that reads as bytes
-pub finds_sha512 : {B : Type 0} (bytes : B → List ℕ) (old new : State) (o : BlockOwner) (found : Option B) → IsOurs old
-    → (rows : List Row) × Shown find_sha512_text (owner_values o) old new rows × (map (λ b. Blob (bytes b) ∷ []) (option_to_list found) ≡ map (columns_from 0 1) rows)
-    → map value_in (filter (is_sha512_of o) (tables_of old).sha512s) ≡ option_to_list (option_map (λ b. Blob (bytes b)) found)
-finds_sha512 bytes old new o found ours read =
-    read_few (λ b. Blob (bytes b)) value_in found (filter (is_sha512_of o) (tables_of old).sha512s) read.0
-    (selects_all our_schema find_sha512_text (owner_values o) old ours.schema 12 sha512s_at.own of_owner (col 1 3 ∷ []) (is_sha512_of o) (tests_owner o) new [] find_is read.0 read.1) read.2

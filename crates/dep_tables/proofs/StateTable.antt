@@ -13,15 +13,18 @@ use Rattle.dep_statements.specs.Query.{equals, no_limit}
 use Rattle.dep_statements.specs.Rows.{row_at, replaced, columns_from}
 use Rattle.dep_statements.proofs.Values.{cast_int, cast_null}
 use Rattle.dep_statements.proofs.Tests.{passes_number}
-use Rattle.dep_statements.proofs.Written.{Updates, updates_keyed}
+use Rattle.dep_statements.proofs.Written.{IsListed, Updates, updates_keyed}
 use Rattle.dep_statements.proofs.Selected.{Asks, selects_keyed}
-use Rattle.dep_tables.specs.Schema.{our_schema}
+use Rattle.dep_tables.specs.Schema.{our_schema, state_table}
 use Rattle.dep_tables.specs.Texts.{write_state_text, read_state_text}
 use Rattle.dep_tables.specs.Rows.{stored_state, state_values, shown_state}
 use Rattle.dep_tables.specs.declared.state.StateRow.{StateRow}
 use Rattle.dep_tables.specs.Tables.{tables_of, IsOurs, Leads}
-use Rattle.dep_tables.proofs.Leading.{leads, state_at}
+use Rattle.dep_tables.proofs.Leading.{leads, listed}
 use Rattle.dep_tables.proofs.Answered.{read_one}
+
+abbrev pub state_at : IsListed our_schema 1 1
+state_at = listed 1 1 state_table refl (λ trees. refl)
 
 abbrev tests : List Term
 tests = equals (col 1 0) (lit (Int (pos 1))) ∷ []

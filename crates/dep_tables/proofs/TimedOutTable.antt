@@ -14,26 +14,26 @@ use Rattle.dep_statements.specs.Query.{equals, no_limit}
 use Rattle.dep_statements.specs.Rows.{row_at, columns_from}
 use Rattle.dep_statements.proofs.Values.{cast_int, cast_null}
 use Rattle.dep_statements.proofs.Tests.{passes_key}
-use Rattle.dep_statements.proofs.Written.{Inserts, inserts_keyed}
+use Rattle.dep_statements.proofs.Written.{IsListed, Inserts, inserts_keyed}
 use Rattle.dep_statements.proofs.Selected.{Asks, selects_keyed}
-use Rattle.dep_tables.specs.Schema.{our_schema}
+use Rattle.dep_tables.specs.Schema.{our_schema, timed_out_table}
 use Rattle.dep_tables.specs.Texts.{insert_timed_out_text, find_timed_out_text}
 use Rattle.dep_tables.specs.Rows.{stored_number}
 use Rattle.dep_tables.specs.Tables.{tables_of, IsOurs, Leads}
-use Rattle.dep_tables.proofs.Leading.{leads, timed_out_at}
+use Rattle.dep_tables.proofs.Leading.{leads, listed}
 use Rattle.dep_tables.proofs.Answered.{read_one, same_some}
 
-abbrev terms : List Term
-terms = col 0 0 ∷ lit Null ∷ []
+abbrev pub timed_out_at : IsListed our_schema 7 9
+timed_out_at = listed 7 9 timed_out_table refl (λ trees. refl)
 
-insert_is : Inserts our_schema insert_timed_out_text 7 terms
+insert_is : Inserts our_schema insert_timed_out_text 7 (col 0 0 ∷ lit Null ∷ [])
 unfolding understood everything
 insert_is = (refl, (refl, refl))
 
 pub inserts_timed_out : (old new : State) (upload count : ℕ) → IsOurs old → ExecutesInside 0 insert_timed_out_text (Int (pos upload) ∷ []) old new (Ok count)
     → Leads old new (record (tables_of old) { timed_out = put_row (stored_number upload) (tables_of old).timed_out }) × (row_at (tables_of old).timed_out upload ≡ None)
 inserts_timed_out old new upload count ours h =
-    let made = inserts_keyed our_schema 7 9 timed_out_at insert_timed_out_text (Int (pos upload) ∷ []) old new ours.schema ours.trees.ordered.1.1.1.1.1.1.1.0 count h terms insert_is upload (Null ∷ [])
+    let made = inserts_keyed our_schema 7 9 timed_out_at insert_timed_out_text (Int (pos upload) ∷ []) old new ours.schema ours.trees.ordered.1.1.1.1.1.1.1.0 count h _ insert_is upload (Null ∷ [])
     (λ i. with_rowid Chosen (old.now.trees 9) (cast_int (pos upload) i ∷ cast_null i ∷ []) ∷ []) in
     (leads old new 9 _ ours made.0 _ refl, made.1)
 

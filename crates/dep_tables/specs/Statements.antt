@@ -19,26 +19,37 @@ use Rattle.dep_tables.specs.Tables.{Tables}
 use Rattle.dep_tables.specs.Clauses.{Statement, Query, AtMostOne, JustOne}
 use Rattle.dep_tables.specs.Texts as text
 
--- a statement whose one parameter is a key
-abbrev pub by_key : (sql : List ℕ) → (key : ℕ) → (Tables → Tables) → Statement
-by_key sql key change = record {
-  storable = key < 2 ^ 63;
+-- a statement whose parameters are the values of a row, an owner or a key
+abbrev pub by_row : {R : Type 0} → (sql : List ℕ) → (storable : R → Type 0) → (values : R → Row)
+    → (change : R → Tables → Tables) → R → Statement
+by_row sql storable values change row = record {
+  storable = storable row;
   text = sql;
-  values = Int (pos key) ∷ [];
-  change = change;
+  values = values row;
+  change = change row;
 }
 
 -- the same of a query
-abbrev pub key_query : {A : Type 0} → (sql : List ℕ) → (key : ℕ) → (are_ours : List Row → Type 0)
-    → (copies : Type 0) → (reported : Tables → A → Type 0) → Query A
-key_query sql key are_ours copies reported = record {
-  storable = key < 2 ^ 63;
+abbrev pub row_query : {R A : Type 0} → (sql : List ℕ) → (storable : R → Type 0)
+    → (values : R → Row) → (are_ours : List Row → Type 0) → (copies : Type 0)
+    → (reported : R → Tables → A → Type 0) → R → Query A
+row_query sql storable values are_ours copies reported row = record {
+  storable = storable row;
   text = sql;
-  values = Int (pos key) ∷ [];
+  values = values row;
   are_ours = are_ours;
   copies = copies;
-  reported = reported;
+  reported = reported row;
 }
+
+-- one whose one parameter is a number, as SQL has them
+abbrev pub by_key : (sql : List ℕ) → (change : ℕ → Tables → Tables) → ℕ → Statement
+by_key sql = by_row sql (λ key. key < 2 ^ 63) (λ key. Int (pos key) ∷ [])
+
+-- the same of a query
+abbrev pub key_query : {A : Type 0} → (sql : List ℕ) → (are_ours : List Row → Type 0)
+    → (copies : Type 0) → (reported : ℕ → Tables → A → Type 0) → ℕ → Query A
+key_query sql = row_query sql (λ key. key < 2 ^ 63) (λ key. Int (pos key) ∷ [])
 
 -- ---- format
 
@@ -55,12 +66,7 @@ update_of_version = record {
 
 -- the clock and the next numbers are set
 abbrev pub update_of_state : StateRow → Statement
-update_of_state row = record {
-  storable = IsStorableState row;
-  text = text.write_state_text;
-  values = state_values row;
-  change = with_state_row row;
-}
+update_of_state = by_row text.write_state_text IsStorableState state_values with_state_row
 
 -- the clock and the next numbers are read
 abbrev pub query_of_state : Query StateRow
@@ -77,182 +83,137 @@ query_of_state = record {
 
 -- the row of an object is added
 abbrev pub insertion_of_object : ObjectRow → Statement
-insertion_of_object row = record {
-  storable = IsStorableObject row;
-  text = text.insert_object_text;
-  values = object_values row;
-  change = with_new_object_row row;
-}
+insertion_of_object =
+    by_row text.insert_object_text IsStorableObject object_values with_new_object_row
 
 -- the row of an object is set
 abbrev pub update_of_object : ObjectRow → Statement
-update_of_object row = record {
-  storable = IsStorableObject row;
-  text = text.write_object_text;
-  values = object_values row;
-  change = with_object_row row;
-}
+update_of_object = by_row text.write_object_text IsStorableObject object_values with_object_row
 
 -- the row of an object is deleted
 abbrev pub deletion_of_object : (object : ℕ) → Statement
-deletion_of_object object = by_key text.delete_object_text object (without_object_row object)
+deletion_of_object = by_key text.delete_object_text without_object_row
 
 -- the row of an object is read
 abbrev pub query_of_object : (object : ℕ) → Query (Option ObjectRow)
-query_of_object object =
-    key_query text.find_object_text object (AtMostOne IsObjectRow) ⊥ (IsObjectRowAt object)
+query_of_object = key_query text.find_object_text (AtMostOne IsObjectRow) ⊥ IsObjectRowAt
 
 -- the next number of an object is read
 abbrev pub query_of_next_object : (after : ℕ) → Query (Option ℕ)
-query_of_next_object after =
-    key_query text.next_object_text after (AtMostOne IsNumberRow) ⊥ (IsObjectAfter after)
+query_of_next_object = key_query text.next_object_text (AtMostOne IsNumberRow) ⊥ IsObjectAfter
 
 -- ---- metadata
 
 -- one text of an object's metadata is added
 abbrev pub insertion_of_metadata : MetadataRow → Statement
-insertion_of_metadata row = record {
-  storable = IsStorableMetadata row;
-  text = text.insert_metadata_text;
-  values = metadata_values row;
-  change = with_new_metadata_row row;
-}
+insertion_of_metadata =
+    by_row text.insert_metadata_text IsStorableMetadata metadata_values with_new_metadata_row
 
 -- the metadata of an object are deleted
 abbrev pub deletion_of_metadata : (object : ℕ) → Statement
-deletion_of_metadata object = by_key text.delete_metadata_text object (without_metadata_rows object)
+deletion_of_metadata = by_key text.delete_metadata_text without_metadata_rows
 
 -- the metadata of an object are read
 abbrev pub query_of_metadata : {Z : Type 0} → (object : ℕ) → Query (Vec MetadataRow Z)
-query_of_metadata object =
-    key_query text.metadata_of_text object (All IsMetadataRow) ⊤ (λ t found. AreMetadataRowsOf object t found.items)
+query_of_metadata =
+    key_query text.metadata_of_text (All IsMetadataRow) ⊤
+    (λ object t found. AreMetadataRowsOf object t found.items)
 
 -- ---- files
 
 -- the row of a file is added
 abbrev pub insertion_of_file : FileRow → Statement
-insertion_of_file row = record {
-  storable = IsStorableFile row;
-  text = text.insert_file_text;
-  values = file_values row;
-  change = with_new_file_row row;
-}
+insertion_of_file = by_row text.insert_file_text IsStorableFile file_values with_new_file_row
 
 -- the row of a file is deleted
 abbrev pub deletion_of_file : (file : ℕ) → Statement
-deletion_of_file file = by_key text.delete_file_text file (without_file_row file)
+deletion_of_file = by_key text.delete_file_text without_file_row
 
 -- the rows of an object's files are deleted
 abbrev pub deletion_of_files : (object : ℕ) → Statement
-deletion_of_files object = by_key text.delete_files_text object (without_file_rows object)
+deletion_of_files = by_key text.delete_files_text without_file_rows
 
 -- the row of a file is read
 abbrev pub query_of_file : (file : ℕ) → Query (Option FileRow)
-query_of_file file = key_query text.find_file_text file (AtMostOne IsFileRow) ⊤ (IsFileRowAt file)
+query_of_file = key_query text.find_file_text (AtMostOne IsFileRow) ⊤ IsFileRowAt
 
 -- the rows of an object's files are read
 abbrev pub query_of_files : {Z : Type 0} → (object : ℕ) → Query (Vec FileRow Z)
-query_of_files object =
-    key_query text.files_of_text object (All IsFileRow) ⊤ (λ t found. AreFileRowsOf object t found.items)
+query_of_files =
+    key_query text.files_of_text (All IsFileRow) ⊤
+    (λ object t found. AreFileRowsOf object t found.items)
 
 -- ---- uploads
 
 -- the row of an upload is added
 abbrev pub insertion_of_upload : UploadColumns → Statement
-insertion_of_upload row = record {
-  storable = IsStorableUpload row;
-  text = text.insert_upload_text;
-  values = upload_values row;
-  change = with_new_upload_row row;
-}
+insertion_of_upload =
+    by_row text.insert_upload_text IsStorableUpload upload_values with_new_upload_row
 
 -- the row of an upload is set
 abbrev pub update_of_upload : UploadColumns → Statement
-update_of_upload row = record {
-  storable = IsStorableUpload row;
-  text = text.write_upload_text;
-  values = upload_values row;
-  change = with_upload_row row;
-}
+update_of_upload = by_row text.write_upload_text IsStorableUpload upload_values with_upload_row
 
 -- the row of an upload is deleted
 abbrev pub deletion_of_upload : (upload : ℕ) → Statement
-deletion_of_upload upload = by_key text.delete_upload_text upload (without_upload_row upload)
+deletion_of_upload = by_key text.delete_upload_text without_upload_row
 
 -- the row of an upload is read
 abbrev pub query_of_upload : (upload : ℕ) → Query (Option UploadColumns)
-query_of_upload upload =
-    key_query text.find_upload_text upload (AtMostOne IsUploadRow) ⊥ (IsUploadRowAt upload)
+query_of_upload = key_query text.find_upload_text (AtMostOne IsUploadRow) ⊥ IsUploadRowAt
 
 -- the next number of an upload is read
 abbrev pub query_of_next_upload : (after : ℕ) → Query (Option ℕ)
-query_of_next_upload after =
-    key_query text.next_upload_text after (AtMostOne IsNumberRow) ⊥ (IsUploadAfter after)
+query_of_next_upload = key_query text.next_upload_text (AtMostOne IsNumberRow) ⊥ IsUploadAfter
 
 -- the upload is read that was left the longest, before a moment
 abbrev pub query_of_left_upload : (moment : ℕ) → Query (Option LeftUpload)
-query_of_left_upload moment =
-    key_query text.left_before_text moment (AtMostOne IsLeftRow) ⊥ (IsLeftBefore moment)
+query_of_left_upload = key_query text.left_before_text (AtMostOne IsLeftRow) ⊥ IsLeftBefore
 
 -- ---- segments
 
 -- the row of a segment is added
 abbrev pub insertion_of_segment : SegmentRow → Statement
-insertion_of_segment row = record {
-  storable = IsStorableSegment row;
-  text = text.insert_segment_text;
-  values = segment_values row;
-  change = with_new_segment_row row;
-}
+insertion_of_segment =
+    by_row text.insert_segment_text IsStorableSegment segment_values with_new_segment_row
 
 -- the rows of an upload's segments are deleted
 abbrev pub deletion_of_segments : (upload : ℕ) → Statement
-deletion_of_segments upload = by_key text.delete_segments_text upload (without_segment_rows upload)
+deletion_of_segments = by_key text.delete_segments_text without_segment_rows
 
 -- the rows of an upload's segments are read
 abbrev pub query_of_segments : {Z : Type 0} → (upload : ℕ) → Query (Vec SegmentRow Z)
-query_of_segments upload =
-    key_query text.segments_of_text upload (All IsSegmentRow) ⊤ (λ t found. AreSegmentRowsOf upload t found.items)
+query_of_segments =
+    key_query text.segments_of_text (All IsSegmentRow) ⊤
+    (λ upload t found. AreSegmentRowsOf upload t found.items)
 
 -- ---- timed_out
 
 -- the number of an upload that timed out is added
 abbrev pub insertion_of_timed_out : (upload : ℕ) → Statement
-insertion_of_timed_out upload = by_key text.insert_timed_out_text upload (with_timed_out upload)
+insertion_of_timed_out = by_key text.insert_timed_out_text with_timed_out
 
 -- whether an upload timed out is read, as this of what was found
 abbrev pub query_of_timed_out : {A : Type 0} → (A → Bool) → (upload : ℕ) → Query A
-query_of_timed_out is_there upload =
-    key_query text.find_timed_out_text upload (AtMostOne IsNumberRow) ⊥ (λ t found. is_there found ≡ has_timed_out upload t)
+query_of_timed_out is_there =
+    key_query text.find_timed_out_text (AtMostOne IsNumberRow) ⊥
+    (λ upload t found. is_there found ≡ has_timed_out upload t)
 
 -- ---- blocks
 
 -- a block is added
 abbrev pub insertion_of_block : BlockKey → List ℕ → Statement
-insertion_of_block key bytes = record {
-  storable = IsStorableKey key;
-  text = text.insert_block_text;
-  values = block_values key bytes;
-  change = with_new_block key bytes;
-}
+insertion_of_block key bytes =
+    by_row text.insert_block_text IsStorableKey (λ k. block_values k bytes)
+    (λ k. with_new_block k bytes) key
 
 -- the blocks of an owner are deleted
 abbrev pub deletion_of_blocks : BlockOwner → Statement
-deletion_of_blocks owner = record {
-  storable = IsStorableOwner owner;
-  text = text.delete_blocks_text;
-  values = owner_values owner;
-  change = without_blocks_of owner;
-}
+deletion_of_blocks = by_row text.delete_blocks_text IsStorableOwner owner_values without_blocks_of
 
 -- the blocks of one part before a place are deleted
 abbrev pub deletion_of_run : BlockKey → Statement
-deletion_of_run end = record {
-  storable = IsStorableKey end;
-  text = text.delete_run_text;
-  values = key_values end;
-  change = without_run end;
-}
+deletion_of_run = by_row text.delete_run_text IsStorableKey key_values without_run
 
 -- the blocks of an owner become another's
 abbrev pub move_of_blocks : (owner to : BlockOwner) → Statement
@@ -274,65 +235,38 @@ move_of_run end to = record {
 
 -- the bytes of a block are read
 abbrev pub query_of_block : {Z : Type 0} → BlockKey → Query (Option (Vec ℕ Z))
-query_of_block key = record {
-  storable = IsStorableKey key;
-  text = text.read_block_text;
-  values = key_values key;
-  are_ours = AtMostOne IsBytesRow;
-  copies = ⊤;
-  reported = λ t found.
-      AreBytesAt key t (option_to_list (option_map (λ bytes. Blob bytes.items) found));
-}
+query_of_block =
+    row_query text.read_block_text IsStorableKey key_values (AtMostOne IsBytesRow) ⊤
+    (λ key t found.
+    AreBytesAt key t (option_to_list (option_map (λ bytes. Blob bytes.items) found)))
 
 -- the part and place of an owner's first block are read
 abbrev pub query_of_first_block : BlockOwner → Query (Option BlockPlace)
-query_of_first_block owner = record {
-  storable = IsStorableOwner owner;
-  text = text.first_block_text;
-  values = owner_values owner;
-  are_ours = AtMostOne IsPlaceRow;
-  copies = ⊥;
-  reported = IsFirstBlock owner;
-}
+query_of_first_block =
+    row_query text.first_block_text IsStorableOwner owner_values (AtMostOne IsPlaceRow) ⊥
+    IsFirstBlock
 
 -- the place of the last block of a part is read
 abbrev pub query_of_last_block : BlockOwner → (part : ℕ) → Query (Option ℕ)
-query_of_last_block owner part = record {
-  storable = IsStorablePart owner part;
-  text = text.last_block_text;
-  values = part_values owner part;
-  are_ours = AtMostOne IsNumberRow;
-  copies = ⊥;
-  reported = IsLastPlace owner part;
-}
+query_of_last_block owner =
+    row_query text.last_block_text (IsStorablePart owner) (part_values owner)
+    (AtMostOne IsNumberRow) ⊥ (IsLastPlace owner)
 
 -- ---- sha512s
 
 -- the SHA-512 of an owner is added
 abbrev pub insertion_of_sha512 : BlockOwner → List ℕ → Statement
-insertion_of_sha512 owner value = record {
-  storable = IsStorableOwner owner;
-  text = text.insert_sha512_text;
-  values = sha512_values owner value;
-  change = with_new_sha512 owner value;
-}
+insertion_of_sha512 owner value =
+    by_row text.insert_sha512_text IsStorableOwner (λ o. sha512_values o value)
+    (λ o. with_new_sha512 o value) owner
 
 -- the SHA-512 of an owner is deleted
 abbrev pub deletion_of_sha512 : BlockOwner → Statement
-deletion_of_sha512 owner = record {
-  storable = IsStorableOwner owner;
-  text = text.delete_sha512_text;
-  values = owner_values owner;
-  change = without_sha512 owner;
-}
+deletion_of_sha512 = by_row text.delete_sha512_text IsStorableOwner owner_values without_sha512
 
 -- the SHA-512 of an owner is read
 abbrev pub query_of_sha512 : BlockOwner → Query (Option (List ℕ))
-query_of_sha512 owner = record {
-  storable = IsStorableOwner owner;
-  text = text.find_sha512_text;
-  values = owner_values owner;
-  are_ours = AtMostOne IsSha512Row;
-  copies = ⊥;
-  reported = λ t found. IsSha512Of owner t (option_to_list (option_map (λ value. Blob value) found));
-}
+query_of_sha512 =
+    row_query text.find_sha512_text IsStorableOwner owner_values (AtMostOne IsSha512Row) ⊥
+    (λ owner t found.
+    IsSha512Of owner t (option_to_list (option_map (λ value. Blob value) found)))

@@ -14,19 +14,19 @@ use Rattle.dep_types.specs.declared.rows.ObjectRow.{ObjectRow}
 use Rattle.dep_types.specs.declared.rows.FileRow.{FileRow}
 use Rattle.dep_bag.specs.Numbered.{file_number}
 use Rattle.dep_manifest.specs.Reported.{row_path}
-use Rattle.dep_bag.proofs.Numbered.{HasStorable, files_storable, found_by_number, none_by_number, numbered, stands_at}
+use Rattle.dep_bag.proofs.Numbered.{HasStorable, files_storable, found_by_number, none_by_number, numbered, represents_at}
 use Rattle.dep_decisions.specs.LookUps.{has_bag_path}
 use Rattle.dep_operations.specs.Views.{has_path, touched_object}
 use Rattle.dep_operations.specs.declared.view.Touched.{Touched}
 use Rattle.dep_views.specs.Seen.{file_at_path, touched_payload}
 
 -- a path is among those of the files where a file is found there
-any_found : (path : List ℕ) (es : List (ℕ × File)) → list_any (bytes_eq path) (map (λ e. payload_path e.0 e.1.name) es) ≡ is_some (find (stands_at path) es)
+any_found : (path : List ℕ) (es : List (ℕ × File)) → list_any (bytes_eq path) (map (λ e. payload_path e.0 e.1.name) es) ≡ is_some (find (represents_at path) es)
 any_found path [] = refl
-any_found path (e ∷ es) = go (stands_at path e) (any_found path es)
+any_found path (e ∷ es) = go (represents_at path e) (any_found path es)
   where
     rest : Option (ℕ × File)
-    rest = find (stands_at path) es
+    rest = find (represents_at path) es
 
     any : Bool
     any = list_any (bytes_eq path) (map (λ e. payload_path e.0 e.1.name) es)
@@ -54,7 +54,7 @@ module _ (s : State) (sound : IsSound s) (n : ℕ) (path : List ℕ) where
   payload_reported : (o : Object) → finmap.get s.objects n ≡ Some o → row_there (file_at_path s n path) ≡ list_any (bytes_eq path) (payload_paths o)
   payload_reported o is = go (file_number path) refl ∙ sym (any_found path (finmap.entries o.files))
     where
-      go : (k : Option ℕ) → file_number path ≡ k → row_there (option_and_then (λ f. option_map (file_row n f) (file_at s n f)) k) ≡ is_some (find (stands_at path) (finmap.entries o.files))
+      go : (k : Option ℕ) → file_number path ≡ k → row_there (option_and_then (λ f. option_map (file_row n f) (file_at s n f)) k) ≡ is_some (find (represents_at path) (finmap.entries o.files))
       go None e = sym (ap (λ (x : Option (ℕ × File)). is_some x) (none_by_number path e o.files (small o is)))
       go (Some f) e =
           ap (λ (x : Option Object). row_there (option_map (file_row n f) (option_and_then (λ (y : Object). finmap.get y.files f) x))) is

@@ -1,6 +1,6 @@
 //! What becomes of the clients of an example, and the words for it.
 
-use dep_host::{Closing, Refusal};
+use dep_host::{Closing, Rejection};
 
 /// The words for what becomes of a client that has come.
 pub const FATES: [&str; 10] = [
@@ -24,7 +24,7 @@ pub enum Fate {
     /// It was let in.
     Open,
     /// It was rejected.
-    Refused(Refusal),
+    Refused(Rejection),
     /// It was let in, and its connection is closed.
     Closed(Closing),
 }
@@ -35,11 +35,11 @@ impl Fate {
         match self {
             Fate::Outside => "outside",
             Fate::Open => "open",
-            Fate::Refused(Refusal::Address) => "address-refused",
-            Fate::Refused(Refusal::Full) => "full-refused",
-            Fate::Refused(Refusal::Memory) => "memory-refused",
-            Fate::Refused(Refusal::Shut) => "shut-refused",
-            Fate::Refused(Refusal::Stopped) => "stop-refused",
+            Fate::Refused(Rejection::Address) => "address-refused",
+            Fate::Refused(Rejection::Full) => "full-refused",
+            Fate::Refused(Rejection::Memory) => "memory-refused",
+            Fate::Refused(Rejection::Shut) => "shut-refused",
+            Fate::Refused(Rejection::Stopped) => "stop-refused",
             Fate::Closed(Closing::Over) => "over",
             Fate::Closed(Closing::Silent) => "silent",
             Fate::Closed(Closing::Slow) => "slow",

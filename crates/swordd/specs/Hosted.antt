@@ -18,7 +18,7 @@ use Rattle.dep_hub.specs.ArchiveCalls.{CallLog}
 use Rattle.swordd.specs.declared.logged_reserve.LoggedReserve.{LoggedReserve}
 use Rattle.dep_commands.specs.Starting.{OpeningLeaves}
 use Rattle.dep_hub.specs.Records.{World, Record, Run, first_world, stopped}
-use Rattle.dep_hub.specs.OpenTables.{RepresentsAfter, IsHonest}
+use Rattle.dep_hub.specs.Representing.{RepresentsAfter, IsHonest}
 use Rattle.dep_hub.specs.declared.hub.Hub.{Hub}
 use Rattle.dep_slot.specs.Causes.{Causes}
 use Rattle.dep_host.specs.Hosting.{HostAction}

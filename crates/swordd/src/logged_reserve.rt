@@ -57,7 +57,7 @@ impl Reserve for LoggedReserve<'_> {
         self.file.restore();
         let is_new = mem::replace(&mut self.is_new, false);
         match (self.file.is_intact(), is_new) {
-            (true, false) => self.report(ReserveState::OpenTables),
+            (true, false) => self.report(ReserveState::Standing),
             (false, true) => self.report(ReserveState::NotWritten),
             _ => {}
         }

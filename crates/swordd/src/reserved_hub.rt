@@ -6,7 +6,7 @@ ghost use Rattle.dep_types.specs.Config.{IsChecked};
 ghost use Rattle.dep_schema.specs.OpenTables.{HoldsNone};
 ghost use Rattle.dep_store.specs.Migrating.{Keeps};
 ghost use Rattle.dep_commands.specs.Starting.{IsGivenOrStore, OpeningLeaves, RefusesConfig};
-ghost use Rattle.dep_hub.specs.OpenTables.{RepresentsAfter, IsHonest};
+ghost use Rattle.dep_hub.specs.Representing.{RepresentsAfter, IsHonest};
 ghost use Rattle.swordd.specs.Hosted.{condition_of, GoesOnFromLeft};
 
 use dep_commands::{StartFault, check_config};

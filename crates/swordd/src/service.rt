@@ -14,7 +14,7 @@ use sqlite::{Alter, Connection};
 /// the database back. The watch is told of what is read where version 1 becomes version 2.
 pub fn serve_database<S: Alter>(
     rt: &HostRuntime,
-    options: Acceptor,
+    options: ListenOptions,
     connection: Connection<S>,
     watch: &mut Reported<'_>,
 ) -> (Outcome, Connection<S>)

@@ -25,10 +25,10 @@ returns g c = record {
             let content = c.args.numbered.now.change.now.content.now in
             let one = g.T.Statements.state c.delete_files.new.tx in
             let two = g.T.Statements.state c.clear_metadata.new.tx in
-            let three = g.T.Statements.state c.write_row.new.tx in
+            let three = g.T.Statements.state c.put_object.new.tx in
             let new = g.T.Statements.state c.fill.new.tx in
             let clean_three = clean_before c.fill.ensures.map.keeps.stays clean in
-            let clean_two = clean_before c.write_row.ensures.map.keeps.stays clean_three in
+            let clean_two = clean_before c.put_object.ensures.does.keeps.stays clean_three in
             let clean_one = clean_before c.clear_metadata.ensures.map.keeps.stays clean_two in
             let inside_one = c.in_ok-delete_files.ensures.does.keeps.stays.inside clean_one inside in
             let ours_one = c.in_ok-delete_files.ensures.does.keeps.ours clean_one inside ours in
@@ -50,22 +50,22 @@ returns g c = record {
             let clear : Object = blank s ingested in
             let is = blank_again s view.clock view.next numbers.0 numbers.1 now n it row row_of c.blank_row.ensures in
             let put = written_again (tables_of three) s n head_only clear (at_number (tables_of three) second now.object n clear (its_number n clear now is)
-            (c.in_ok-write_row.ensures.map.done clear clean_three inside_two ours_two second cleared (rewritten second n head_only clear now is (get_here s.objects n head_only) refl refl))) in
+            (c.in_ok-put_object.ensures.does.map clean_three inside_two ours_two second cleared clear (rewritten second n head_only clear now is (get_here s.objects n head_only) refl refl))) in
             let third : State = with_object s n clear in
             at_object s (without s.uploads (uploads_in c.args.numbered.now.deposit.now)) new c.fill.result n o (λ (x : Object). filled s content c.args.numbered.now.deposit.now (x.ingested || c.args.ingests)) object.1
             (ok_then c.fill.result
-            (c.fill.ensures.map.done clear clean (c.in_ok-write_row.ensures.map.keeps.stays.inside clean_three inside_two) (c.in_ok-write_row.ensures.map.keeps.ours clean_three inside_two ours_two) third put
+            (c.fill.ensures.map.done clear clean (c.in_ok-put_object.ensures.does.keeps.stays.inside clean_three inside_two) (c.in_ok-put_object.ensures.does.keeps.ours clean_three inside_two ours_two) third put
             ((numbers, still_have third.objects s content view.uploads c.args.numbered.now.deposit.now reported.1.2), there_at third.objects row.object n clear number (get_here s.objects n clear)))
             (λ done. deposit_again (tables_of new) s content row.object n clear c.args.numbered.now.deposit.now ingested number done));
-        keeps = changes_then (changes_then (changes_then c.in_ok-delete_files.ensures.does.keeps c.in_ok-clear_metadata.ensures.map.keeps) c.in_ok-write_row.ensures.map.keeps) c.fill.ensures.map.keeps;
+        keeps = changes_then (changes_then (changes_then c.in_ok-delete_files.ensures.does.keeps c.in_ok-clear_metadata.ensures.map.keeps) c.in_ok-put_object.ensures.does.keeps) c.fill.ensures.map.keeps;
       };
 }
 
 pub returns-in_err-clear_metadata : goal.returns-in_err-clear_metadata
 returns-in_err-clear_metadata g c = record { map = λ n. does_failed _ c.from_residual-in_err-clear_metadata.ensures.0 (stays_then c.in_ok-delete_files.ensures.does.keeps.stays c.clear_metadata.ensures.map.keeps.stays) }
 
-pub returns-in_err-write_row : goal.returns-in_err-write_row
-returns-in_err-write_row g c = record { map = λ n. does_failed _ c.from_residual-in_err-write_row.ensures.0 (stays_then (stays_then c.in_ok-delete_files.ensures.does.keeps.stays c.in_ok-clear_metadata.ensures.map.keeps.stays) c.write_row.ensures.map.keeps.stays) }
+pub returns-in_err-put_object : goal.returns-in_err-put_object
+returns-in_err-put_object g c = record { map = λ n. does_failed _ c.from_residual-in_err-put_object.ensures.0 (stays_then (stays_then c.in_ok-delete_files.ensures.does.keeps.stays c.in_ok-clear_metadata.ensures.map.keeps.stays) c.put_object.ensures.does.keeps.stays) }
 
 pub returns-in_err-touched_object : goal.returns-in_err-touched_object
 returns-in_err-touched_object g c = record { map = λ n. does_failed _ c.from_residual.ensures.0 (stays_put g.T.Statements.lenders g.T.Statements.state c.args.tx.now c.from_residual.result) }

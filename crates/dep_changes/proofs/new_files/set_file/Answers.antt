@@ -1,7 +1,7 @@
-use Rattle.std.proofs.Common.{◌≡◌, refl, sym, subst}
+use Rattle.std.proofs.Common.{refl, sym, subst}
+use Rattle.std.specs.Prelude.{slice_get}
 use Rattle.std.specs.FinMap as finmap
 use Rattle.dep_types.specs.State.{State, Object, File}
-use Rattle.dep_fixity.specs.Fixity.{digests_of}
 use Rattle.dep_tables.proofs.Chains.{clean_before, stays_put, stays_then}
 use Rattle.dep_tables.specs.Tables.{tables_of}
 use Rattle.dep_tables.proofs.Results.{ok_then}
@@ -10,7 +10,8 @@ use Rattle.dep_row_maps.proofs.Lens.{get_here}
 use Rattle.dep_decisions.specs.Effects.{bytes_from, file_from, with_files}
 use Rattle.dep_decisions.specs.declared.decision.Source.{Source}
 use Rattle.dep_changes.proofs.Carried.{at_object}
-use Rattle.dep_changes.specs.Changed.{made_file}
+use Rattle.dep_changes.specs.Changed.{made_file, with_new_file}
+use Rattle.dep_changes.specs.Reported.{IsSource}
 use Rattle.dep_changes.proofs.Steps.{files_row, number_is, at_number, there_at, written_again, file_replaced, row_written}
 use Rattle.dep_row_maps.proofs.Changing.{changes_then, does_failed}
 use Rattle.dep_changes.proofs.new_files.set_file.Goals as goal
@@ -24,13 +25,13 @@ returns g c = record {
             let view = c.args.change.now.view.now in
             let f = c.args.file in
             let as_new = c.args.new.now in
-            let one = g.T.Statements.state c.write_row.new.tx in
+            let one = g.T.Statements.state c.put_object.new.tx in
             let two = g.T.Statements.state c.delete_file.new.tx in
-            let new = g.T.Statements.state c.put_posted.new.tx in
-            let clean_two = clean_before (c.put_posted.ensures.map 0).keeps.stays clean in
+            let new = g.T.Statements.state c.put_new_file.new.tx in
+            let clean_two = clean_before c.put_new_file.ensures.map.keeps.stays clean in
             let clean_one = clean_before c.delete_file.ensures.does.keeps.stays clean_two in
-            let inside_one = c.in_ok-write_row.ensures.map.keeps.stays.inside clean_one inside in
-            let ours_one = c.in_ok-write_row.ensures.map.keeps.ours clean_one inside ours in
+            let inside_one = c.in_ok-put_object.ensures.does.keeps.stays.inside clean_one inside in
+            let ours_one = c.in_ok-put_object.ensures.does.keeps.ours clean_one inside ours in
             let numbers = reported.0 in
             let o = reported.1.0 in
             let file = reported.1.1 in
@@ -41,7 +42,7 @@ returns g c = record {
             let now = c.files_changed.result in
             let mark : Object = with_files s o.files o in
             let is = files_row s n o view.object object.0 row c.in_ok-row.ensures.reported view.clock view.next numbers.0 numbers.1 now o.files c.files_changed.ensures in
-            let put = row_written (tables_of one) s n o mark now is object.1 refl refl (c.in_ok-write_row.ensures.map.done mark clean_one inside ours s are) in
+            let put = row_written (tables_of one) s n o mark now is object.1 refl refl (c.in_ok-put_object.ensures.does.map clean_one inside ours s are mark) in
             let first : State = with_object s n mark in
             let left : Object = with_files s (finmap.remove o.files f) o in
             let gone = written_again (tables_of two) s n mark left
@@ -49,22 +50,23 @@ returns g c = record {
             let second : State = with_object s n left in
             let made : File = made_file s as_new content in
             let it : Object = with_files s (finmap.insert (finmap.remove o.files f) f made) o in
-            let digests : c.in-Posted.digests ≡ digests_of content = let posted = c.in-Posted.is in cc in
-            at_object s s.uploads new c.put_posted.result n o (λ (x : Object). with_files s (finmap.insert x.files f (file_from s content as_new)) x) object.1
-            (ok_then c.put_posted.result
-            ((c.put_posted.ensures.map 0).done left clean (c.in_ok-delete_file.ensures.does.keeps.stays.inside clean_two inside_one) (c.in_ok-delete_file.ensures.does.keeps.ours clean_two inside_one ours_one) second gone
-            ((numbers, digests), there_at second.objects row.object n left number (get_here s.objects n left)))
-            (λ there. subst (λ (from : Source). TablesAre (tables_of new) (with_object s n (with_files s (finmap.insert o.files f (made_file s as_new (bytes_from s content from))) o))) (sym source)
-            (file_replaced (tables_of new) s n o f made (written_again (tables_of new) s n left it (at_number (tables_of new) second row.object n it number there)))));
-        keeps = changes_then (changes_then c.in_ok-write_row.ensures.map.keeps c.in_ok-delete_file.ensures.does.keeps) (c.put_posted.ensures.map 0).keeps;
+            at_object s s.uploads new c.put_new_file.result n o (λ (x : Object). with_files s (finmap.insert x.files f (file_from s content as_new)) x) object.1
+            (ok_then c.put_new_file.result
+            (c.put_new_file.ensures.map.done left clean (c.in_ok-delete_file.ensures.does.keeps.stays.inside clean_two inside_one) (c.in_ok-delete_file.ensures.does.keeps.ours clean_two inside_one ours_one) second gone
+            ((numbers, subst (IsSource second content (slice_get view.uploads 0)) (sym source) refl), there_at second.objects row.object n left number (get_here s.objects n left)))
+            (λ there.
+            let posted = subst (λ (from : Source). TablesAre (tables_of new) (with_new_file second row.object left f (made_file second as_new (bytes_from second content from)) from)) source there in
+            subst (λ (from : Source). TablesAre (tables_of new) (with_object s n (with_files s (finmap.insert o.files f (made_file s as_new (bytes_from s content from))) o))) (sym source)
+            (file_replaced (tables_of new) s n o f made (written_again (tables_of new) s n left it (at_number (tables_of new) second row.object n it number posted)))));
+        keeps = changes_then (changes_then c.in_ok-put_object.ensures.does.keeps c.in_ok-delete_file.ensures.does.keeps) c.put_new_file.ensures.map.keeps;
       };
 }
 
 pub returns-in_err-delete_file : goal.returns-in_err-delete_file
-returns-in_err-delete_file g c = record { map = λ n. does_failed _ c.from_residual-in_err-delete_file.ensures.0 (stays_then c.in_ok-write_row.ensures.map.keeps.stays c.delete_file.ensures.does.keeps.stays) }
+returns-in_err-delete_file g c = record { map = λ n. does_failed _ c.from_residual-in_err-delete_file.ensures.0 (stays_then c.in_ok-put_object.ensures.does.keeps.stays c.delete_file.ensures.does.keeps.stays) }
 
 pub returns-in_err-row : goal.returns-in_err-row
 returns-in_err-row g c = record { map = λ n. does_failed _ c.from_residual.ensures.0 (stays_put g.T.Statements.lenders g.T.Statements.state c.args.tx.now c.from_residual.result) }
 
-pub returns-in_err-write_row : goal.returns-in_err-write_row
-returns-in_err-write_row g c = record { map = λ n. does_failed _ c.from_residual-in_err-write_row.ensures.0 c.in_err-write_row.ensures.map.keeps.stays }
+pub returns-in_err-put_object : goal.returns-in_err-put_object
+returns-in_err-put_object g c = record { map = λ n. does_failed _ c.from_residual-in_err-put_object.ensures.0 c.in_err-put_object.ensures.does.keeps.stays }

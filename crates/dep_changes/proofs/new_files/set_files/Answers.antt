@@ -21,10 +21,10 @@ returns g c = record {
             let one = g.T.Statements.state c.delete_files.new.tx in
             let view = c.args.numbered.now.change.now.view.now in
             let content = c.args.numbered.now.change.now.content.now in
-            let two = g.T.Statements.state c.write_row.new.tx in
+            let two = g.T.Statements.state c.put_object.new.tx in
             let new = g.T.Statements.state c.put_new_files.new.tx in
             let clean_two = clean_before c.put_new_files.ensures.map.keeps.stays clean in
-            let clean_one = clean_before c.write_row.ensures.map.keeps.stays clean_two in
+            let clean_one = clean_before c.put_object.ensures.does.keeps.stays clean_two in
             let inside_one = c.in_ok-delete_files.ensures.does.keeps.stays.inside clean_one inside in
             let ours_one = c.in_ok-delete_files.ensures.does.keeps.ours clean_one inside ours in
             let numbers = reported.0 in
@@ -39,19 +39,19 @@ returns g c = record {
             let head_only : Object = with_files s finmap.empty o in
             let is = files_row s n o view.object object.0 row c.in_ok-row.ensures.reported view.clock view.next numbers.0 numbers.1 now finmap.empty c.files_changed.ensures in
             let put = written_again (tables_of two) s n left head_only (at_number (tables_of two) first now.object n head_only (its_number n head_only now is)
-            (c.in_ok-write_row.ensures.map.done head_only clean_two inside_one ours_one first gone (rewritten first n left head_only now is (get_here s.objects n left) refl refl))) in
+            (c.in_ok-put_object.ensures.does.map clean_two inside_one ours_one first gone head_only (rewritten first n left head_only now is (get_here s.objects n left) refl refl))) in
             let second : State = with_object s n head_only in
             at_object s (without s.uploads (uploads_of c.args.numbered.now.files.now)) new c.put_new_files.result n o (λ (x : Object). with_files s (added s content c.args.numbered.now.files.now finmap.empty) x) object.1
             (ok_then c.put_new_files.result
-            (c.put_new_files.ensures.map.done head_only clean (c.in_ok-write_row.ensures.map.keeps.stays.inside clean_two inside_one) (c.in_ok-write_row.ensures.map.keeps.ours clean_two inside_one ours_one) second put
+            (c.put_new_files.ensures.map.done head_only clean (c.in_ok-put_object.ensures.does.keeps.stays.inside clean_two inside_one) (c.in_ok-put_object.ensures.does.keeps.ours clean_two inside_one ours_one) second put
             ((numbers, reported.1.2), there_at second.objects row.object n head_only number (get_here s.objects n head_only)))
             (λ added. new_files_again (tables_of new) s content row.object n head_only head_only c.args.numbered.now.files.now number added));
-        keeps = changes_then (changes_then c.in_ok-delete_files.ensures.does.keeps c.in_ok-write_row.ensures.map.keeps) c.put_new_files.ensures.map.keeps;
+        keeps = changes_then (changes_then c.in_ok-delete_files.ensures.does.keeps c.in_ok-put_object.ensures.does.keeps) c.put_new_files.ensures.map.keeps;
       };
 }
 
-pub returns-in_err-write_row : goal.returns-in_err-write_row
-returns-in_err-write_row g c = record { map = λ n. does_failed _ c.from_residual-in_err-write_row.ensures.0 (stays_then c.in_ok-delete_files.ensures.does.keeps.stays c.write_row.ensures.map.keeps.stays) }
+pub returns-in_err-put_object : goal.returns-in_err-put_object
+returns-in_err-put_object g c = record { map = λ n. does_failed _ c.from_residual-in_err-put_object.ensures.0 (stays_then c.in_ok-delete_files.ensures.does.keeps.stays c.put_object.ensures.does.keeps.stays) }
 
 pub returns-in_err-row : goal.returns-in_err-row
 returns-in_err-row g c = record { map = λ n. does_failed _ c.from_residual.ensures.0 (stays_put g.T.Statements.lenders g.T.Statements.state c.args.tx.now c.from_residual.result) }

@@ -14,7 +14,7 @@ returns g c = record {
   map = λ n.
       record {
         done = λ clean inside ours s are reported.
-            let new = g.T.Statements.state c.write_row.new.tx in
+            let new = g.T.Statements.state c.put_object.new.tx in
             let view = c.args.change.now.view.now in
             let numbers = reported.0 in
             let o = reported.1.0 in
@@ -23,10 +23,10 @@ returns g c = record {
             let found = c.in_ok-row.ensures.reported in
             let it : Object = ingested_by true (changed s o) in
             let is = completed_row s n o view.object object.0 row found view.clock view.next numbers.0 numbers.1 c.completed.result c.completed.ensures in
-            at_object s s.uploads new c.write_row.result n o (λ (x : Object). ingested_by true (changed s x)) object.1
-            (ok_then c.write_row.result (c.write_row.ensures.map.done it clean inside ours s are (rewritten s n o it _ is object.1 refl refl))
+            at_object s s.uploads new c.put_object.result n o (λ (x : Object). ingested_by true (changed s x)) object.1
+            (ok_then c.put_object.result (c.put_object.ensures.does.map clean inside ours s are it (rewritten s n o it _ is object.1 refl refl))
             (λ put. at_number (tables_of new) s c.completed.result.object n it (its_number n it c.completed.result is) put));
-        keeps = c.write_row.ensures.map.keeps;
+        keeps = c.put_object.ensures.does.keeps;
       };
 }
 

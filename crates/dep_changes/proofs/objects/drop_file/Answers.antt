@@ -17,7 +17,7 @@ returns g c = record {
   map = λ n.
       record {
         done = λ clean inside ours s are reported.
-            let mid = g.T.Statements.state c.write_row.new.tx in
+            let mid = g.T.Statements.state c.put_object.new.tx in
             let view = c.args.change.now.view.now in
             let new = g.T.Statements.state c.delete_file.new.tx in
             let before = clean_before c.delete_file.ensures.does.keeps.stays clean in
@@ -29,19 +29,19 @@ returns g c = record {
             let now = c.files_changed.result in
             let mark : Object = with_files s o.files o in
             let is = files_row s n o view.object object.0 row c.in_ok-row.ensures.reported view.clock view.next numbers.0 numbers.1 now o.files c.files_changed.ensures in
-            let put = row_written (tables_of mid) s n o mark now is object.1 refl refl (c.in_ok-write_row.ensures.map.done mark before inside ours s are) in
+            let put = row_written (tables_of mid) s n o mark now is object.1 refl refl (c.in_ok-put_object.ensures.does.map before inside ours s are mark) in
             let one : State = with_object s n mark in
             let it : Object = with_files s (finmap.remove o.files c.args.file) o in
             at_object s s.uploads new c.delete_file.result n o (λ (x : Object). with_files s (finmap.remove x.files c.args.file) x) object.1
             (ok_then c.delete_file.result
-            (c.delete_file.ensures.does.map clean (c.in_ok-write_row.ensures.map.keeps.stays.inside before inside) (c.in_ok-write_row.ensures.map.keeps.ours before inside ours) one put n mark file (get_here s.objects n mark) reported.1.2.1)
+            (c.delete_file.ensures.does.map clean (c.in_ok-put_object.ensures.does.keeps.stays.inside before inside) (c.in_ok-put_object.ensures.does.keeps.ours before inside ours) one put n mark file (get_here s.objects n mark) reported.1.2.1)
             (λ gone. written_again (tables_of new) s n mark it gone));
-        keeps = changes_then c.in_ok-write_row.ensures.map.keeps c.delete_file.ensures.does.keeps;
+        keeps = changes_then c.in_ok-put_object.ensures.does.keeps c.delete_file.ensures.does.keeps;
       };
 }
 
 pub returns-in_err-row : goal.returns-in_err-row
 returns-in_err-row g c = record { map = λ n. does_failed _ c.from_residual.ensures.0 (stays_put g.T.Statements.lenders g.T.Statements.state c.args.tx.now c.from_residual.result) }
 
-pub returns-in_err-write_row : goal.returns-in_err-write_row
-returns-in_err-write_row g c = record { map = λ n. does_failed _ c.from_residual-in_err-write_row.ensures.0 c.in_err-write_row.ensures.map.keeps.stays }
+pub returns-in_err-put_object : goal.returns-in_err-put_object
+returns-in_err-put_object g c = record { map = λ n. does_failed _ c.from_residual-in_err-put_object.ensures.0 c.in_err-put_object.ensures.does.keeps.stays }

@@ -18,7 +18,7 @@ returns g c = record {
         done = λ clean inside ours s are reported.
             let texts = c.args.metadata.now in
             let view = c.args.change.now.view.now in
-            let mid = g.T.Statements.state c.write_row.new.tx in
+            let mid = g.T.Statements.state c.put_object.new.tx in
             let new = g.T.Statements.state c.set_metadata.new.tx in
             let before = clean_before c.set_metadata.ensures.does.keeps.stays clean in
             let numbers = reported.0 in
@@ -29,18 +29,18 @@ returns g c = record {
             let now = c.texts_changed.result in
             let mark : Object = with_texts s o.metadata o in
             let is = texts_row s n o view.object object.0 row c.in_ok-row.ensures.reported view.clock view.next numbers.0 numbers.1 now o.metadata c.texts_changed.ensures in
-            let put = row_written (tables_of mid) s n o mark now is object.1 refl refl (c.in_ok-write_row.ensures.map.done mark before inside ours s are) in
+            let put = row_written (tables_of mid) s n o mark now is object.1 refl refl (c.in_ok-put_object.ensures.does.map before inside ours s are mark) in
             let one : State = with_object s n mark in
             at_object s s.uploads new c.set_metadata.result n o (with_texts s texts) object.1
             (ok_then c.set_metadata.result
-            (c.set_metadata.ensures.does.map clean (c.in_ok-write_row.ensures.map.keeps.stays.inside before inside) (c.in_ok-write_row.ensures.map.keeps.ours before inside ours) one put mark (there_at one.objects row.object n mark number (get_here s.objects n mark)))
+            (c.set_metadata.ensures.does.map clean (c.in_ok-put_object.ensures.does.keeps.stays.inside before inside) (c.in_ok-put_object.ensures.does.keeps.ours before inside ours) one put mark (there_at one.objects row.object n mark number (get_here s.objects n mark)))
             (λ set. written_again (tables_of new) s n mark (with_texts s texts o) (at_number (tables_of new) one row.object n (with_texts s texts o) number set)));
-        keeps = changes_then c.in_ok-write_row.ensures.map.keeps c.set_metadata.ensures.does.keeps;
+        keeps = changes_then c.in_ok-put_object.ensures.does.keeps c.set_metadata.ensures.does.keeps;
       };
 }
 
 pub returns-in_err-row : goal.returns-in_err-row
 returns-in_err-row g c = record { map = λ n. does_failed _ c.from_residual.ensures.0 (stays_put g.T.Statements.lenders g.T.Statements.state c.args.tx.now c.from_residual.result) }
 
-pub returns-in_err-write_row : goal.returns-in_err-write_row
-returns-in_err-write_row g c = record { map = λ n. does_failed _ c.from_residual-in_err-write_row.ensures.0 c.in_err-write_row.ensures.map.keeps.stays }
+pub returns-in_err-put_object : goal.returns-in_err-put_object
+returns-in_err-put_object g c = record { map = λ n. does_failed _ c.from_residual-in_err-put_object.ensures.0 c.in_err-put_object.ensures.does.keeps.stays }

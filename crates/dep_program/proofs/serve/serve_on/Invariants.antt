@@ -1,4 +1,4 @@
-use Rattle.dep_hub.specs.Standing.{ServesAs}
+use Rattle.dep_hub.specs.Representing.{ServesAs}
 use Rattle.dep_program.proofs.ServeLemmas.{ProgressLine}
 use Rattle.dep_program.proofs.serve.serve_on.Given as goal
 

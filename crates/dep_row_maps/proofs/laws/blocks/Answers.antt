@@ -6,14 +6,4 @@ use Rattle.dep_row_maps.proofs.Whole.{block_put, blocks_deleted, blocks_moved, b
 use Rattle.dep_row_maps.proofs.laws.blocks.Goals as goal
 
 pub returns : goal.returns
-returns c = record {
-  put = block_put;
-  content_put = content_put;
-  deleted = blocks_deleted;
-  moved = blocks_moved;
-  join = blocks_joined;
-  sized = blocks-sized;
-  block_read = block_read;
-  content_read = content_read;
-  assembled_read = assembled_read;
-}
+returns c = record { put = block_put; content_put = content_put; deleted = blocks_deleted; moved = blocks_moved; join = blocks_joined; sized = blocks-sized; block_read = block_read; content_read = content_read; assembled_read = assembled_read }

@@ -5,16 +5,4 @@ use Rattle.dep_row_maps.proofs.Whole.{file_added, file_removed, file_assembled, 
 use Rattle.dep_row_maps.proofs.laws.files.Goals as goal
 
 pub returns : goal.returns
-returns c = record {
-  added = file_added;
-  posted = file_posted;
-  removed = file_removed;
-  missed = file_missed;
-  dropped = files_dropped;
-  replaced = file_replaced;
-  assembled = file_assembled;
-  found = file_found_at;
-  read = file_read;
-  listed = files_listed;
-  all_read = files_read;
-}
+returns c = record { added = file_added; posted = file_posted; removed = file_removed; missed = file_missed; dropped = files_dropped; replaced = file_replaced; assembled = file_assembled; found = file_found_at; read = file_read; listed = files_listed; all_read = files_read }

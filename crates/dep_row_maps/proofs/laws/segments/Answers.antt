@@ -4,8 +4,4 @@ use Rattle.dep_row_maps.proofs.Whole.{segment_added}
 use Rattle.dep_row_maps.proofs.laws.segments.Goals as goal
 
 pub returns : goal.returns
-returns c = record {
-  added = segment_added;
-  received = segment_received;
-  read = segments_read;
-}
+returns c = record { added = segment_added; received = segment_received; read = segments_read }

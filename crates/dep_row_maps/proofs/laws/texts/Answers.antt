@@ -3,12 +3,4 @@ use Rattle.dep_row_maps.proofs.Whole.{text_added, texts_added, texts_cleared, te
 use Rattle.dep_row_maps.proofs.laws.texts.Goals as goal
 
 pub returns : goal.returns
-returns c = record {
-  added = text_added;
-  all_added = texts_added;
-  cleared = texts_cleared;
-  replaced = texts_replaced;
-  set_all = texts_set;
-  read = texts_read;
-  grouped = texts_grouped;
-}
+returns c = record { added = text_added; all_added = texts_added; cleared = texts_cleared; replaced = texts_replaced; set_all = texts_set; read = texts_read; grouped = texts_grouped }

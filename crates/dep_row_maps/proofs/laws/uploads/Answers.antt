@@ -5,13 +5,4 @@ use Rattle.dep_row_maps.proofs.Whole.{upload_put, upload_written, upload_removed
 use Rattle.dep_row_maps.proofs.laws.uploads.Goals as goal
 
 pub returns : goal.returns
-returns c = record {
-  put = upload_put;
-  written = upload_written;
-  removed = upload_removed;
-  timed_out = timed_out_put;
-  ticked = ticked_one_by_one;
-  found = upload_found;
-  read = upload_read;
-  left = left_before_read;
-}
+returns c = record { put = upload_put; written = upload_written; removed = upload_removed; timed_out = timed_out_put; ticked = ticked_one_by_one; found = upload_found; read = upload_read; left = left_before_read }

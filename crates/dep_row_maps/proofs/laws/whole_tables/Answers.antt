@@ -5,9 +5,4 @@ use Rattle.dep_row_maps.proofs.Whole.{first_stands}
 use Rattle.dep_row_maps.proofs.laws.whole_tables.Goals as goal
 
 pub returns : goal.returns
-returns c = record {
-  first = first_stands;
-  none_left = none_left;
-  sha512_read = sha512_read;
-  upgraded = tables_upgraded;
-}
+returns c = record { first = first_stands; none_left = none_left; sha512_read = sha512_read; upgraded = tables_upgraded }

@@ -1,5 +1,7 @@
-use Rattle.dep_tables.proofs.Results.{ok_then, not_storable}
-use Rattle.dep_tables.proofs.Done.{refuses, runs}
+use Rattle.dep_tables.proofs.Results.{not_storable}
+use Rattle.dep_tables.specs.Edits.{LacksFileRow}
+use Rattle.dep_tables.specs.Statements.{insertion_of_file}
+use Rattle.dep_tables.proofs.Done.{refuses, puts}
 use Rattle.dep_tables.proofs.FilesTable.{inserts_file}
 use Rattle.dep_tables.proofs.files.insert_file.Goals as goal
 
@@ -7,7 +9,6 @@ pub returns-then-not-is_storable_file : goal.returns-then-not-is_storable_file
 returns-then-not-is_storable_file g c = record { does = refuses _ (not_storable c.is_storable_file.result c.if-not-is_storable_file.true c.is_storable_file.ensures.1); free = λ clean inside ours. tt }
 
 pub returns : goal.returns
-returns g c = record {
-  does = runs _ (c.is_storable_file.ensures.0 c.if-not-is_storable_file.false) c.file_params.ensures c.run.ensures.runs c.run.ensures.cause c.run.ensures.keeps (λ count ours ran. (inserts_file _ _ c.args.row.now count ours ran).0);
-  free = λ clean inside ours. ok_then c.run.result (c.run.ensures.runs clean inside) (λ ran. (inserts_file _ _ c.args.row.now ran.0 ours (rw c.file_params.ensures at ran.1)).1);
-}
+returns g c =
+    let both = puts (insertion_of_file c.args.row.now) (LacksFileRow c.args.row.now.file) c.run.ensures.keeps (c.is_storable_file.ensures.0 c.if-not-is_storable_file.false) c.file_params.ensures c.run.ensures.runs c.run.ensures.cause (inserts_file _ _ c.args.row.now) in
+    record { does = both.0; free = both.1 }

@@ -1,5 +1,7 @@
-use Rattle.dep_tables.proofs.Results.{ok_then, not_storable}
-use Rattle.dep_tables.proofs.Done.{refuses, runs}
+use Rattle.dep_tables.proofs.Results.{not_storable}
+use Rattle.dep_tables.specs.Edits.{LacksObjectRow}
+use Rattle.dep_tables.specs.Statements.{insertion_of_object}
+use Rattle.dep_tables.proofs.Done.{refuses, puts}
 use Rattle.dep_tables.proofs.ObjectsTable.{inserts_object}
 use Rattle.dep_tables.proofs.objects.insert_object.Goals as goal
 
@@ -7,7 +9,6 @@ pub returns-then-not-is_storable_object : goal.returns-then-not-is_storable_obje
 returns-then-not-is_storable_object g c = record { does = refuses _ (not_storable c.is_storable_object.result c.if-not-is_storable_object.true c.is_storable_object.ensures.1); free = λ clean inside ours. tt }
 
 pub returns : goal.returns
-returns g c = record {
-  does = runs _ (c.is_storable_object.ensures.0 c.if-not-is_storable_object.false) c.object_params.ensures c.run.ensures.runs c.run.ensures.cause c.run.ensures.keeps (λ count ours ran. (inserts_object _ _ c.args.row.now count ours ran).0);
-  free = λ clean inside ours. ok_then c.run.result (c.run.ensures.runs clean inside) (λ ran. (inserts_object _ _ c.args.row.now ran.0 ours (rw c.object_params.ensures at ran.1)).1);
-}
+returns g c =
+    let both = puts (insertion_of_object c.args.row.now) (LacksObjectRow c.args.row.now.object) c.run.ensures.keeps (c.is_storable_object.ensures.0 c.if-not-is_storable_object.false) c.object_params.ensures c.run.ensures.runs c.run.ensures.cause (inserts_object _ _ c.args.row.now) in
+    record { does = both.0; free = both.1 }

@@ -1,5 +1,7 @@
-use Rattle.dep_tables.proofs.Results.{ok_then, not_storable}
-use Rattle.dep_tables.proofs.Done.{refuses, runs}
+use Rattle.dep_tables.proofs.Results.{not_storable}
+use Rattle.dep_tables.specs.Edits.{LacksUploadRow}
+use Rattle.dep_tables.specs.Statements.{insertion_of_upload}
+use Rattle.dep_tables.proofs.Done.{refuses, puts}
 use Rattle.dep_tables.proofs.UploadsTable.{inserts_upload}
 use Rattle.dep_tables.proofs.uploads.insert_upload.Goals as goal
 
@@ -7,7 +9,6 @@ pub returns-then-not-is_storable_upload : goal.returns-then-not-is_storable_uplo
 returns-then-not-is_storable_upload g c = record { does = refuses _ (not_storable c.is_storable_upload.result c.if-not-is_storable_upload.true c.is_storable_upload.ensures.1); free = λ clean inside ours. tt }
 
 pub returns : goal.returns
-returns g c = record {
-  does = runs _ (c.is_storable_upload.ensures.0 c.if-not-is_storable_upload.false) c.upload_params.ensures c.run.ensures.runs c.run.ensures.cause c.run.ensures.keeps (λ count ours ran. (inserts_upload _ _ c.args.row.now count ours ran).0);
-  free = λ clean inside ours. ok_then c.run.result (c.run.ensures.runs clean inside) (λ ran. (inserts_upload _ _ c.args.row.now ran.0 ours (rw c.upload_params.ensures at ran.1)).1);
-}
+returns g c =
+    let both = puts (insertion_of_upload c.args.row.now) (LacksUploadRow c.args.row.now.upload) c.run.ensures.keeps (c.is_storable_upload.ensures.0 c.if-not-is_storable_upload.false) c.upload_params.ensures c.run.ensures.runs c.run.ensures.cause (inserts_upload _ _ c.args.row.now) in
+    record { does = both.0; free = both.1 }

@@ -5,7 +5,7 @@ use Rattle.dep_store.specs.HashingStores.{condition_of}
 use Rattle.dep_types.specs.Config.{IsChecked}
 use Rattle.dep_types.specs.declared.config.Config.{Config}
 use Rattle.dep_connection.specs.Conversation.{session}
-use Rattle.dep_hub.specs.OpenTables.{IsHonest}
+use Rattle.dep_hub.specs.Representing.{IsHonest}
 use Rattle.swordd.specs.Replays.{Replays, not_begun, wire_of}
 use Rattle.dep_program.specs.declared.outcome.Outcome.{Outcome}
 use Rattle.swordd.proofs.ReplayLemmas.{comes_to, not_replayed, rests_same}

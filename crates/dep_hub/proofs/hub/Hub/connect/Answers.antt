@@ -12,8 +12,8 @@ use Rattle.dep_hub.proofs.HoldingLemmas.{connects_line, holds_same}
 use Rattle.dep_hub.specs.declared.rest.Behind.TheVariants.{Nothing}
 use Rattle.dep_hub.specs.RepresentsOwing.{behind_at}
 use Rattle.dep_hub.proofs.BehindLemmas.{behind_push}
-use Rattle.dep_hub.specs.Claims.{is_any_pending, is_any_waiting}
-use Rattle.dep_hub.proofs.PendingLemmas.{pending_push, waiting_push}
+use Rattle.dep_hub.specs.Claims.{is_any_pending, is_any_waiting, is_pending, is_waiting}
+use Rattle.dep_hub.proofs.PendingLemmas.{any_push}
 use Rattle.dep_hub.proofs.hub.Hub.connect.Goals as goal
 
 pub invariant_of-self : goal.invariant_of-self
@@ -28,8 +28,8 @@ invariant_of-self-2 g c =
     let d : Connection = record { number = c.args.self.now.next; intake = c.new.result; behind = Nothing } in
     record {
       ascends = subst (λ (cs : List Connection). Ascends 0 cs (d.number + 1)) (sym c.in_default.ensures.items) (ascends_push 0 c.args.self.now.connections.items d c.args.self.now.ascends);
-      busy = c.args.self.now.busy ∙ sym (ap is_any_pending c.in_default.ensures.items ∙ pending_push c.args.self.now.connections.items d refl);
-      awaiting = c.args.self.now.awaiting ∙ sym (ap is_any_waiting c.in_default.ensures.items ∙ waiting_push c.args.self.now.connections.items d refl);
+      busy = c.args.self.now.busy ∙ sym (ap is_any_pending c.in_default.ensures.items ∙ any_push is_pending c.args.self.now.connections.items d refl);
+      awaiting = c.args.self.now.awaiting ∙ sym (ap is_any_waiting c.in_default.ensures.items ∙ any_push is_waiting c.args.self.now.connections.items d refl);
     }
 
 -- there are too many, or no number is left

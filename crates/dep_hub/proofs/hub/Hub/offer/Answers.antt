@@ -1,5 +1,6 @@
 use Rattle.std.proofs.Common.{refl, sym, ap, ◌∙◌}
 use Rattle.dep_message.specs.Places.{shut_reading, place_with}
+use Rattle.dep_hub.specs.Claims.{is_pending, is_waiting}
 use Rattle.dep_hub.specs.Numbers.{index_of}
 use Rattle.dep_hub.proofs.ConnectionLemmas.{index_none, ascends_set}
 use Rattle.dep_hub.proofs.HubLemmas.{stays_there, none_there, not_absent, same_hub}
@@ -7,7 +8,7 @@ use Rattle.dep_hub.proofs.HoldingLemmas.{held_fed, refuses}
 use Rattle.dep_hub.proofs.NextLemmas.{open_there, runs_out}
 use Rattle.dep_hub.proofs.ShutLemmas.{there_sent}
 use Rattle.dep_hub.proofs.BehindLemmas.{behind_as_was}
-use Rattle.dep_hub.proofs.PendingLemmas.{pending_set, waiting_set}
+use Rattle.dep_hub.proofs.PendingLemmas.{any_set}
 use Rattle.dep_hub.proofs.hub.Hub.offer.Goals as goal
 use Rattle.std.proofs.KnownBytes.{Keeps-refl}
 
@@ -68,9 +69,9 @@ pub invariant_of-self : goal.invariant_of-self
 invariant_of-self g c = record {
   ascends = ascends_set 0 c.args.self.now.next c.in-Some.i c.args.self.now.connections.items c.index_mut-kept.result.now
       (record { number = c.index_mut-kept.result.now.number; intake = c.feed.new.self; behind = c.index_mut-kept.result.now.behind }) c.index_mut-kept.ensures.value refl c.args.self.now.ascends;
-  busy = c.args.self.now.busy ∙ sym (pending_set c.in-Some.i c.args.self.now.connections.items c.index_mut-kept.result.now
+  busy = c.args.self.now.busy ∙ sym (any_set is_pending c.in-Some.i c.args.self.now.connections.items c.index_mut-kept.result.now
       (record { number = c.index_mut-kept.result.now.number; intake = c.feed.new.self; behind = c.index_mut-kept.result.now.behind }) c.index_mut-kept.ensures.value refl);
-  awaiting = c.args.self.now.awaiting ∙ sym (waiting_set c.in-Some.i c.args.self.now.connections.items c.index_mut-kept.result.now
+  awaiting = c.args.self.now.awaiting ∙ sym (any_set is_waiting c.in-Some.i c.args.self.now.connections.items c.index_mut-kept.result.now
       (record { number = c.index_mut-kept.result.now.number; intake = c.feed.new.self; behind = c.index_mut-kept.result.now.behind }) c.index_mut-kept.ensures.value refl);
 }
 
@@ -78,8 +79,8 @@ pub invariant_of-self-in-Err : goal.invariant_of-self-in-Err
 invariant_of-self-in-Err g c = record {
   ascends = ascends_set 0 c.args.self.now.next c.in-Some.i c.args.self.now.connections.items c.index_mut-kept.result.now
       (record { number = c.index_mut-kept.result.now.number; intake = c.give_up.new.intake; behind = c.index_mut-kept.result.now.behind }) c.index_mut-kept.ensures.value refl c.args.self.now.ascends;
-  busy = c.args.self.now.busy ∙ sym (pending_set c.in-Some.i c.args.self.now.connections.items c.index_mut-kept.result.now
+  busy = c.args.self.now.busy ∙ sym (any_set is_pending c.in-Some.i c.args.self.now.connections.items c.index_mut-kept.result.now
       (record { number = c.index_mut-kept.result.now.number; intake = c.give_up.new.intake; behind = c.index_mut-kept.result.now.behind }) c.index_mut-kept.ensures.value refl);
-  awaiting = c.args.self.now.awaiting ∙ sym (waiting_set c.in-Some.i c.args.self.now.connections.items c.index_mut-kept.result.now
+  awaiting = c.args.self.now.awaiting ∙ sym (any_set is_waiting c.in-Some.i c.args.self.now.connections.items c.index_mut-kept.result.now
       (record { number = c.index_mut-kept.result.now.number; intake = c.give_up.new.intake; behind = c.index_mut-kept.result.now.behind }) c.index_mut-kept.ensures.value refl);
 }

@@ -10,6 +10,7 @@ use Rattle.dep_hub.proofs.HubLemmas.{same_hub, none_there}
 use Rattle.dep_hub.proofs.BehindLemmas.{behind_none, not_there}
 use Rattle.dep_hub.proofs.PendingLemmas.{not_broken}
 use Rattle.dep_hub.proofs.PreparingLemmas.{there_none}
+use Rattle.dep_hub.proofs.LookLemmas.{keeps_same, kept_same}
 use Rattle.dep_hub.proofs.hub.Hub.reply.Goals as goal
 
 -- there is no such connection
@@ -58,3 +59,18 @@ pub returns-clause-absent : goal.returns-clause-absent
 returns-clause-absent g c none =
     let index = ap (index_of c.args.connection) (sym c.as_slice.ensures.value) ∙ sym c.in-Some.ensures.value in
     absurd (there_none c.args.connection c.in-Some.i c.args.self.now.connections.items index none)
+
+-- it is kept back
+pub keep_back-requires-clause-kept : goal.keep_back-requires-clause-kept
+keep_back-requires-clause-kept g c =
+    kept_same c.args.self.now c.kept_back.new.self c.args.connection c.in-Some-kept_back.behind c.kept_back.ensures.same c.in-Some-kept_back.ensures.found
+
+pub returns-in-Some-kept_back-clause-absent : goal.returns-in-Some-kept_back-clause-absent
+returns-in-Some-kept_back-clause-absent g c none =
+    let index = ap (index_of c.args.connection) (sym c.as_slice.ensures.value) ∙ sym c.in-Some.ensures.value in
+    absurd (there_none c.args.connection c.in-Some.i c.args.self.now.connections.items index none)
+
+pub returns-in-Some-kept_back-clause-later : goal.returns-in-Some-kept_back-clause-later
+returns-in-Some-kept_back-clause-later g c e =
+    keeps_same g.A.Archive.condition c.args.self.now c.kept_back.new.self c.keep_back.new.self c.args.connection (g.O.Outlet.taken c.args.out.now) (g.O.Outlet.failures c.args.out.now)
+    c.kept_back.ensures.same (c.keep_back.ensures.keeps (g.O.Outlet.taken c.args.out.now) (g.O.Outlet.failures c.args.out.now))

@@ -1,27 +1,25 @@
-use Rattle.std.proofs.Common.{[], refl, sym, ap, subst, ◌∙◌}
+use Rattle.std.proofs.Common.{refl, sym, ap, subst, ◌∙◌}
 use Rattle.dep_hub.specs.Numbers.{index_of}
 use Rattle.dep_hub.specs.Owing.{IsOwed}
 use Rattle.dep_hub.specs.Claims.{is_any_pending, is_content, is_pending, is_waiting}
-use Rattle.dep_hub.proofs.PendingLemmas.{pending_set, waiting_set}
+use Rattle.dep_hub.proofs.PendingLemmas.{any_set}
 use Rattle.dep_hub.specs.RepresentsOwing.{behind_at}
 use Rattle.dep_hub.specs.declared.rest.Behind.{Behind}
 use Rattle.dep_hub.specs.declared.rest.Behind.TheVariants.{Nothing, Content, Broken}
 use Rattle.dep_hub.specs.declared.sent_on.SentOn.TheVariants.{Part, All, Broken as BrokenOff}
-use Rattle.dep_hub.proofs.Leaving.{leaves_once, stays_as}
+use Rattle.dep_hub.proofs.Leaving.{leaves_once}
 use Rattle.dep_hub.proofs.ConnectionLemmas.{ascends_set}
-use Rattle.std.proofs.KnownBytes.{Appends-nil}
-use Rattle.dep_hub.proofs.BehindLemmas.{behind_none, behind_some, behinds_are, behinds_back, behinds_stay, intakes_back, intakes_stay, leaves_same, paid_all, paid_broken, paid_nothing, paid_part, sends_on}
-use Rattle.dep_hub.proofs.OwingLemmas.{few_none}
+use Rattle.dep_hub.proofs.BehindLemmas.{behind_none, behind_some, behinds_are, behinds_stay, intakes_stay, nothing_sent, paid_all, paid_broken, paid_part, sends_none, sends_on}
 use Rattle.dep_hub.proofs.hub.Hub.send_on.Goals as goal
 
 pub invariant_of-self-in-Ok-Some : goal.invariant_of-self-in-Ok-Some
 invariant_of-self-in-Ok-Some g c = record {
   ascends = ascends_set 0 c.args.self.now.next c.in-Some.i c.args.self.now.connections.items c.index_mut-kept.result.now
       (record { number = c.index_mut-kept.result.now.number; intake = c.index_mut-kept.result.now.intake; behind = (Content (record { file = c.in-Content.rest.file; sent = c.in-Ok-Some.sent })) }) c.index_mut-kept.ensures.value refl c.args.self.now.ascends;
-  busy = c.args.self.now.busy ∙ sym (pending_set c.in-Some.i c.args.self.now.connections.items c.index_mut-kept.result.now
+  busy = c.args.self.now.busy ∙ sym (any_set is_pending c.in-Some.i c.args.self.now.connections.items c.index_mut-kept.result.now
       (record { number = c.index_mut-kept.result.now.number; intake = c.index_mut-kept.result.now.intake; behind = (Content (record { file = c.in-Content.rest.file; sent = c.in-Ok-Some.sent })) })
       c.index_mut-kept.ensures.value (sym (ap is_pending c.in-Content.is)));
-  awaiting = c.args.self.now.awaiting ∙ sym (waiting_set c.in-Some.i c.args.self.now.connections.items c.index_mut-kept.result.now
+  awaiting = c.args.self.now.awaiting ∙ sym (any_set is_waiting c.in-Some.i c.args.self.now.connections.items c.index_mut-kept.result.now
       (record { number = c.index_mut-kept.result.now.number; intake = c.index_mut-kept.result.now.intake; behind = (Content (record { file = c.in-Content.rest.file; sent = c.in-Ok-Some.sent })) })
       c.index_mut-kept.ensures.value (sym (ap is_waiting c.in-Content.is)));
 }
@@ -31,7 +29,7 @@ invariant_of-self-in-Ok-None g c = record {
   ascends = ascends_set 0 c.args.self.now.next c.in-Some.i c.args.self.now.connections.items c.index_mut-kept.result.now
       (record { number = c.index_mut-kept.result.now.number; intake = c.index_mut-kept.result.now.intake; behind = Nothing }) c.index_mut-kept.ensures.value refl c.args.self.now.ascends;
   busy = c.is_any_pending-self.ensures ∙ ap is_any_pending c.as_slice-in-Ok-None.ensures.value;
-  awaiting = c.args.self.now.awaiting ∙ sym (waiting_set c.in-Some.i c.args.self.now.connections.items c.index_mut-kept.result.now
+  awaiting = c.args.self.now.awaiting ∙ sym (any_set is_waiting c.in-Some.i c.args.self.now.connections.items c.index_mut-kept.result.now
       (record { number = c.index_mut-kept.result.now.number; intake = c.index_mut-kept.result.now.intake; behind = Nothing })
       c.index_mut-kept.ensures.value (sym (ap is_waiting c.in-Content.is)));
 }
@@ -41,111 +39,52 @@ invariant_of-self-in-Err g c = record {
   ascends = ascends_set 0 c.args.self.now.next c.in-Some.i c.args.self.now.connections.items c.index_mut-kept.result.now
       (record { number = c.index_mut-kept.result.now.number; intake = c.index_mut-kept.result.now.intake; behind = Broken }) c.index_mut-kept.ensures.value refl c.args.self.now.ascends;
   busy = c.is_any_pending-self-in-Err.ensures ∙ ap is_any_pending c.as_slice-in-Err.ensures.value;
-  awaiting = c.args.self.now.awaiting ∙ sym (waiting_set c.in-Some.i c.args.self.now.connections.items c.index_mut-kept.result.now
+  awaiting = c.args.self.now.awaiting ∙ sym (any_set is_waiting c.in-Some.i c.args.self.now.connections.items c.index_mut-kept.result.now
       (record { number = c.index_mut-kept.result.now.number; intake = c.index_mut-kept.result.now.intake; behind = Broken })
       c.index_mut-kept.ensures.value (sym (ap is_waiting c.in-Content.is)));
 }
 
+-- nothing is left
 pub returns-in_default-clause-sends : goal.returns-in_default-clause-sends
 returns-in_default-clause-sends g c =
     let old = c.args.self.now in
     let none = behind_none c.args.connection old.connections.items (ap (index_of c.args.connection) (sym c.as_slice.ensures.value) ∙ (sym c.index_among.ensures.value ∙ c.in_default.is)) in
-    sends_on g.A.Archive.condition old _ c.args.connection (behind_at old.connections.items c.args.connection) refl
-    (λ m. refl) (behinds_stay c.args.connection old.connections.items)
-    (behind_at old.connections.items c.args.connection) refl
-    All (g.O.Outlet.taken c.args.out.now) (g.O.Outlet.taken c.args.out.now) (g.O.Outlet.failures c.args.out.now) (g.O.Outlet.failures c.args.out.now)
-    [] (Appends-nil (g.O.Outlet.taken c.args.out.now))
-    (λ honest s at owed owes. paid_nothing s (behind_at old.connections.items c.args.connection) All owed (subst (λ (x : Behind). IsOwed s x owed) none owes) owes)
-    (λ clean honest s at. at)
-    (λ honest s at. stays_as (g.A.Archive.condition old.store) s (g.met.A.Archive.settled old.store) at)
-    (λ disk none. leaves_same (g.A.Archive.condition old.store) (g.A.Archive.condition old.store))
-    (λ _. refl) (ap is_content none) (few_none (g.O.Outlet.taken c.args.out.now))
+    sends_none g.A.Archive.condition old _ c.args.connection (behind_at old.connections.items c.args.connection) refl
+    (λ m. refl) (behinds_stay c.args.connection old.connections.items) refl (g.met.A.Archive.settled old.store) refl
+    All (g.O.Outlet.taken c.args.out.now) (g.O.Outlet.failures c.args.out.now)
+    (λ s owed owes. subst (λ (x : Behind). IsOwed s x owed) none owes) (ap is_content none)
 
 pub returns-in-Nothing-clause-sends : goal.returns-in-Nothing-clause-sends
 returns-in-Nothing-clause-sends g c =
-    let old = c.args.self.now in
-    let index = ap (index_of c.args.connection) (sym c.as_slice.ensures.value) ∙ sym c.in-Some.ensures.value in
-    let kept = c.index_mut-kept.result.now in
-    sends_on g.A.Archive.condition old _ c.args.connection (behind_at old.connections.items c.args.connection) refl
-    (intakes_back c.in-Some.i old.connections.items kept c.index_mut-kept.ensures.value)
-    (behinds_back c.args.connection c.in-Some.i old.connections.items kept c.index_mut-kept.ensures.value)
-    (behind_at old.connections.items c.args.connection) refl
-    All (g.O.Outlet.taken c.args.out.now) (g.O.Outlet.taken c.args.out.now) (g.O.Outlet.failures c.args.out.now) (g.O.Outlet.failures c.args.out.now)
-    [] (Appends-nil (g.O.Outlet.taken c.args.out.now))
-    (λ honest s at owed owes. paid_nothing s (behind_at old.connections.items c.args.connection) All owed (subst (λ (x : Behind). IsOwed s x owed) (behind_some c.args.connection c.in-Some.i old.connections.items kept index c.index_mut-kept.ensures.value ∙ c.in-Nothing.is) owes) owes)
-    (λ clean honest s at. at)
-    (λ honest s at. stays_as (g.A.Archive.condition old.store) s (g.met.A.Archive.settled old.store) at)
-    (λ disk none. leaves_same (g.A.Archive.condition old.store) (g.A.Archive.condition old.store))
-    (λ _. refl) (ap is_content (behind_some c.args.connection c.in-Some.i old.connections.items kept index c.index_mut-kept.ensures.value ∙ c.in-Nothing.is)) (few_none (g.O.Outlet.taken c.args.out.now))
+    nothing_sent g.A.Archive.condition c.args.self.now _ c.args.connection c.in-Some.i c.index_mut-kept.result.now
+    (ap (index_of c.args.connection) (sym c.as_slice.ensures.value) ∙ sym c.in-Some.ensures.value) c.index_mut-kept.ensures.value refl refl refl (g.met.A.Archive.settled c.args.self.now.store)
+    All (g.O.Outlet.taken c.args.out.now) (g.O.Outlet.failures c.args.out.now) (λ s owed owes. subst (λ (x : Behind). IsOwed s x owed) c.in-Nothing.is owes) (ap is_content c.in-Nothing.is)
 
 pub returns-in-Waits-clause-sends : goal.returns-in-Waits-clause-sends
 returns-in-Waits-clause-sends g c =
-    let old = c.args.self.now in
-    let index = ap (index_of c.args.connection) (sym c.as_slice.ensures.value) ∙ sym c.in-Some.ensures.value in
-    let kept = c.index_mut-kept.result.now in
-    sends_on g.A.Archive.condition old _ c.args.connection (behind_at old.connections.items c.args.connection) refl
-    (intakes_back c.in-Some.i old.connections.items kept c.index_mut-kept.ensures.value)
-    (behinds_back c.args.connection c.in-Some.i old.connections.items kept c.index_mut-kept.ensures.value)
-    (behind_at old.connections.items c.args.connection) refl
-    All (g.O.Outlet.taken c.args.out.now) (g.O.Outlet.taken c.args.out.now) (g.O.Outlet.failures c.args.out.now) (g.O.Outlet.failures c.args.out.now)
-    [] (Appends-nil (g.O.Outlet.taken c.args.out.now))
-    (λ honest s at owed owes. paid_nothing s (behind_at old.connections.items c.args.connection) All owed (subst (λ (x : Behind). IsOwed s x owed) (behind_some c.args.connection c.in-Some.i old.connections.items kept index c.index_mut-kept.ensures.value ∙ c.in-Waits.is) owes) owes)
-    (λ clean honest s at. at)
-    (λ honest s at. stays_as (g.A.Archive.condition old.store) s (g.met.A.Archive.settled old.store) at)
-    (λ disk none. leaves_same (g.A.Archive.condition old.store) (g.A.Archive.condition old.store))
-    (λ _. refl) (ap is_content (behind_some c.args.connection c.in-Some.i old.connections.items kept index c.index_mut-kept.ensures.value ∙ c.in-Waits.is)) (few_none (g.O.Outlet.taken c.args.out.now))
+    nothing_sent g.A.Archive.condition c.args.self.now _ c.args.connection c.in-Some.i c.index_mut-kept.result.now
+    (ap (index_of c.args.connection) (sym c.as_slice.ensures.value) ∙ sym c.in-Some.ensures.value) c.index_mut-kept.ensures.value refl refl refl (g.met.A.Archive.settled c.args.self.now.store)
+    All (g.O.Outlet.taken c.args.out.now) (g.O.Outlet.failures c.args.out.now) (λ s owed owes. subst (λ (x : Behind). IsOwed s x owed) c.in-Waits.is owes) (ap is_content c.in-Waits.is)
 
 pub returns-in-Prepares-clause-sends : goal.returns-in-Prepares-clause-sends
 returns-in-Prepares-clause-sends g c =
-    let old = c.args.self.now in
-    let index = ap (index_of c.args.connection) (sym c.as_slice.ensures.value) ∙ sym c.in-Some.ensures.value in
-    let kept = c.index_mut-kept.result.now in
-    sends_on g.A.Archive.condition old _ c.args.connection (behind_at old.connections.items c.args.connection) refl
-    (intakes_back c.in-Some.i old.connections.items kept c.index_mut-kept.ensures.value)
-    (behinds_back c.args.connection c.in-Some.i old.connections.items kept c.index_mut-kept.ensures.value)
-    (behind_at old.connections.items c.args.connection) refl
-    All (g.O.Outlet.taken c.args.out.now) (g.O.Outlet.taken c.args.out.now) (g.O.Outlet.failures c.args.out.now) (g.O.Outlet.failures c.args.out.now)
-    [] (Appends-nil (g.O.Outlet.taken c.args.out.now))
-    (λ honest s at owed owes. paid_nothing s (behind_at old.connections.items c.args.connection) All owed (subst (λ (x : Behind). IsOwed s x owed) (behind_some c.args.connection c.in-Some.i old.connections.items kept index c.index_mut-kept.ensures.value ∙ c.in-Prepares.is) owes) owes)
-    (λ clean honest s at. at)
-    (λ honest s at. stays_as (g.A.Archive.condition old.store) s (g.met.A.Archive.settled old.store) at)
-    (λ disk none. leaves_same (g.A.Archive.condition old.store) (g.A.Archive.condition old.store))
-    (λ _. refl) (ap is_content (behind_some c.args.connection c.in-Some.i old.connections.items kept index c.index_mut-kept.ensures.value ∙ c.in-Prepares.is)) (few_none (g.O.Outlet.taken c.args.out.now))
+    nothing_sent g.A.Archive.condition c.args.self.now _ c.args.connection c.in-Some.i c.index_mut-kept.result.now
+    (ap (index_of c.args.connection) (sym c.as_slice.ensures.value) ∙ sym c.in-Some.ensures.value) c.index_mut-kept.ensures.value refl refl refl (g.met.A.Archive.settled c.args.self.now.store)
+    All (g.O.Outlet.taken c.args.out.now) (g.O.Outlet.failures c.args.out.now) (λ s owed owes. subst (λ (x : Behind). IsOwed s x owed) c.in-Prepares.is owes) (ap is_content c.in-Prepares.is)
 
 pub returns-in-Prepared-clause-sends : goal.returns-in-Prepared-clause-sends
 returns-in-Prepared-clause-sends g c =
-    let old = c.args.self.now in
-    let index = ap (index_of c.args.connection) (sym c.as_slice.ensures.value) ∙ sym c.in-Some.ensures.value in
-    let kept = c.index_mut-kept.result.now in
-    sends_on g.A.Archive.condition old _ c.args.connection (behind_at old.connections.items c.args.connection) refl
-    (intakes_back c.in-Some.i old.connections.items kept c.index_mut-kept.ensures.value)
-    (behinds_back c.args.connection c.in-Some.i old.connections.items kept c.index_mut-kept.ensures.value)
-    (behind_at old.connections.items c.args.connection) refl
-    All (g.O.Outlet.taken c.args.out.now) (g.O.Outlet.taken c.args.out.now) (g.O.Outlet.failures c.args.out.now) (g.O.Outlet.failures c.args.out.now)
-    [] (Appends-nil (g.O.Outlet.taken c.args.out.now))
-    (λ honest s at owed owes. paid_nothing s (behind_at old.connections.items c.args.connection) All owed (subst (λ (x : Behind). IsOwed s x owed) (behind_some c.args.connection c.in-Some.i old.connections.items kept index c.index_mut-kept.ensures.value ∙ c.in-Prepared.is) owes) owes)
-    (λ clean honest s at. at)
-    (λ honest s at. stays_as (g.A.Archive.condition old.store) s (g.met.A.Archive.settled old.store) at)
-    (λ disk none. leaves_same (g.A.Archive.condition old.store) (g.A.Archive.condition old.store))
-    (λ _. refl) (ap is_content (behind_some c.args.connection c.in-Some.i old.connections.items kept index c.index_mut-kept.ensures.value ∙ c.in-Prepared.is)) (few_none (g.O.Outlet.taken c.args.out.now))
+    nothing_sent g.A.Archive.condition c.args.self.now _ c.args.connection c.in-Some.i c.index_mut-kept.result.now
+    (ap (index_of c.args.connection) (sym c.as_slice.ensures.value) ∙ sym c.in-Some.ensures.value) c.index_mut-kept.ensures.value refl refl refl (g.met.A.Archive.settled c.args.self.now.store)
+    All (g.O.Outlet.taken c.args.out.now) (g.O.Outlet.failures c.args.out.now) (λ s owed owes. subst (λ (x : Behind). IsOwed s x owed) c.in-Prepared.is owes) (ap is_content c.in-Prepared.is)
 
 pub returns-in-Broken-clause-sends : goal.returns-in-Broken-clause-sends
 returns-in-Broken-clause-sends g c =
-    let old = c.args.self.now in
-    let index = ap (index_of c.args.connection) (sym c.as_slice.ensures.value) ∙ sym c.in-Some.ensures.value in
-    let kept = c.index_mut-kept.result.now in
-    sends_on g.A.Archive.condition old _ c.args.connection (behind_at old.connections.items c.args.connection) refl
-    (intakes_back c.in-Some.i old.connections.items kept c.index_mut-kept.ensures.value)
-    (behinds_back c.args.connection c.in-Some.i old.connections.items kept c.index_mut-kept.ensures.value)
-    (behind_at old.connections.items c.args.connection) refl
-    BrokenOff (g.O.Outlet.taken c.args.out.now) (g.O.Outlet.taken c.args.out.now) (g.O.Outlet.failures c.args.out.now) (g.O.Outlet.failures c.args.out.now)
-    [] (Appends-nil (g.O.Outlet.taken c.args.out.now))
-    (λ honest s at owed owes. paid_nothing s (behind_at old.connections.items c.args.connection) BrokenOff owed tt owes)
-    (λ clean honest s at. at)
-    (λ honest s at. stays_as (g.A.Archive.condition old.store) s (g.met.A.Archive.settled old.store) at)
-    (λ disk none. leaves_same (g.A.Archive.condition old.store) (g.A.Archive.condition old.store))
-    (λ _. refl) (ap is_content (behind_some c.args.connection c.in-Some.i old.connections.items kept index c.index_mut-kept.ensures.value ∙ c.in-Broken.is)) (few_none (g.O.Outlet.taken c.args.out.now))
+    nothing_sent g.A.Archive.condition c.args.self.now _ c.args.connection c.in-Some.i c.index_mut-kept.result.now
+    (ap (index_of c.args.connection) (sym c.as_slice.ensures.value) ∙ sym c.in-Some.ensures.value) c.index_mut-kept.ensures.value refl refl refl (g.met.A.Archive.settled c.args.self.now.store)
+    BrokenOff (g.O.Outlet.taken c.args.out.now) (g.O.Outlet.failures c.args.out.now) (λ s owed owes. tt) (ap is_content c.in-Broken.is)
 
+-- a content goes on
 pub returns-in-Ok-Some-clause-sends : goal.returns-in-Ok-Some-clause-sends
 returns-in-Ok-Some-clause-sends g c =
     let old = c.args.self.now in

@@ -1,8 +1,9 @@
 use Rattle.std.proofs.Common.{set, refl, sym, ◌∙◌}
+use Rattle.dep_hub.specs.Claims.{is_pending, is_waiting}
 use Rattle.dep_hub.specs.WorkingAhead.{for_none}
 use Rattle.dep_hub.proofs.ConnectionLemmas.{ascends_set}
 use Rattle.dep_hub.proofs.LeastLemmas.{least_there, none_preparing, none_there}
-use Rattle.dep_hub.proofs.PendingLemmas.{pending_set, waiting_set}
+use Rattle.dep_hub.proofs.PendingLemmas.{any_set}
 use Rattle.dep_hub.proofs.PreparingLemmas.{one_step, step_idle, step_still, works_ahead}
 use Rattle.dep_hub.proofs.hub.Hub.work_ahead.Goals as goal
 
@@ -25,8 +26,8 @@ invariant_of-self-2 g c =
     let item = c.index_mut.ensures.value in
     record {
       ascends = ascends_set 0 old.next c.in-Some.i old.connections.items kept d item c.prepare.ensures.number old.ascends;
-      busy = old.busy ∙ sym (pending_set c.in-Some.i old.connections.items kept d item (step_idle kept.behind d.behind c.prepare.ensures.step));
-      awaiting = old.awaiting ∙ sym (waiting_set c.in-Some.i old.connections.items kept d item (step_still kept.behind d.behind c.prepare.ensures.step));
+      busy = old.busy ∙ sym (any_set is_pending c.in-Some.i old.connections.items kept d item (step_idle kept.behind d.behind c.prepare.ensures.step));
+      awaiting = old.awaiting ∙ sym (any_set is_waiting c.in-Some.i old.connections.items kept d item (step_still kept.behind d.behind c.prepare.ensures.step));
     }
 
 pub returns-clause-rests : goal.returns-clause-rests

@@ -1,6 +1,6 @@
 use Rattle.std.specs.Prelude.{slice_get}
 use Rattle.dep_changes.proofs.NewObject.{posted_extent, whole_extent}
-use Rattle.dep_changes.proofs.created.extent_of.Goals as goal
+use Rattle.dep_changes.proofs.new_files.extent_of.Goals as goal
 
 pub returns-in-Posted : goal.returns-in-Posted
 returns-in-Posted c s source =

@@ -1,6 +1,6 @@
 use Rattle.dep_decisions.specs.Effects.{bytes_from}
 use Rattle.dep_changes.proofs.Assembled.{made_row}
-use Rattle.dep_changes.proofs.created.row_of.Goals as goal
+use Rattle.dep_changes.proofs.new_files.row_of.Goals as goal
 
 pub returns : goal.returns
 returns c = record {

@@ -3,7 +3,7 @@ use Rattle.std.proofs.KnownBytes.{Keeps-refl}
 use Rattle.std.proofs.lemmas.Bool.{eq-eqb}
 use Rattle.dep_message.specs.Places.{Reading}
 use Rattle.dep_hub.specs.Owing.{IsOwed, with_more, bytes_later}
-use Rattle.dep_hub.specs.Claims.{is_any_pending, is_any_waiting, is_waiting}
+use Rattle.dep_hub.specs.Claims.{is_any_pending, is_any_waiting, is_pending, is_waiting}
 use Rattle.dep_hub.specs.RepresentsOwing.{IsFree, KeptBack, behind_at, is_looked_at, is_unsent}
 use Rattle.dep_hub.specs.Preparing.{is_preparing}
 use Rattle.dep_hub.specs.declared.connections.Connection.{Connection}
@@ -14,80 +14,30 @@ use Rattle.dep_hub.proofs.HubLemmas.{stays_there}
 use Rattle.dep_hub.proofs.HoldingLemmas.{comes_next}
 use Rattle.dep_hub.proofs.NextLemmas.{next_there, next_passes}
 use Rattle.dep_hub.proofs.BehindLemmas.{some_such, behind_some, behinds_are, intakes_stay, others_are, owed_at, owed_later, some_reading}
-use Rattle.dep_hub.proofs.PendingLemmas.{kept_back_as, not_broken, not_looked, not_waiting, pending_unset, waiting_unset}
-use Rattle.dep_hub.proofs.hub.Hub.reply_at.Goals as goal
+use Rattle.dep_hub.proofs.PendingLemmas.{any_unset, not_broken, not_looked, not_waiting}
+use Rattle.dep_hub.proofs.hub.Hub.answer_at.Goals as goal
 
--- it is kept back
-pub invariant_of-self : goal.invariant_of-self
-invariant_of-self g c = record {
-  ascends = ascends_set 0 c.args.self.now.next c.args.i c.args.self.now.connections.items c.index_mut.result.now
-      (record { number = c.index_mut.result.now.number; intake = c.index_mut.result.now.intake; behind = c.in-Some.behind }) c.index_mut.ensures.value refl c.args.self.now.ascends;
-  busy = c.is_any_pending-self.ensures ∙ ap is_any_pending c.as_slice-in-Some.ensures.value;
-  awaiting = c.is_any_waiting-self.ensures ∙ ap is_any_waiting c.as_slice-in-Some-2.ensures.value;
-}
-
-pub returns-in-Some-clause-there : goal.returns-in-Some-clause-there
-returns-in-Some-clause-there g c =
-    let index = c.requires.index in (
-      (λ e. cc e),
-      stays_there c.args.connection c.args.i c.args.self.now.connections.items c.index_mut.result.now index c.index_mut.ensures.value c.index_mut.result.now.intake c.in-Some.behind,
-    )
-
-pub returns-in-Some-clause-later : goal.returns-in-Some-clause-later
-returns-in-Some-clause-later g c e =
-    let n = c.args.connection in
-    let i = c.args.i in
-    let items = c.args.self.now.connections.items in
-    let index = c.requires.index in
-    let x = c.index.result.now in
-    let kept = c.index_mut.result.now in
-    let b = c.in-Some.behind in
-    let behinds = behinds_are n i items kept b index c.index_mut.ensures.value kept.intake _ refl in
-    let here = behinds n ∙ ap (λ (t : Bool). if t then b else behind_at items n) (eq-eqb n n refl) in
-    record {
-      same_store = refl;
-      same_config = refl;
-      same_next = refl;
-      sends_nothing = Keeps-refl (g.O.Outlet.taken c.args.out.now);
-      same_failures = refl;
-      intakes = intakes_stay n i items kept b index c.index_mut.ensures.value _ refl;
-      others = others_are n items _ b behinds;
-      reading = x.intake;
-      there = (index_some n i items x index c.index.ensures).1;
-      why = kept_back_as items x.intake x.behind _ b _ (behind_some n i items x index c.index.ensures) here
-          (subst (λ (cs : List Connection). KeptBack cs x.intake x.behind b) c.as_slice.ensures.value c.in-Some.ensures.kept);
-    }
-
--- its next item was answered
 pub still_pending-self-requires : goal.still_pending-self-requires
 still_pending-self-requires g c before none =
     let kept = c.index_mut-kept.result.now in
-    ap is_any_pending c.as_slice-2.ensures.value
-    ∙ pending_unset c.args.i c.args.self.now.connections.items (record { number = kept.number; intake = c.take_next-next.new.intake; behind = c.behind_of-behind.result }) none
+    ap is_any_pending c.as_slice.ensures.value
+    ∙ any_unset is_pending c.args.i c.args.self.now.connections.items (record { number = kept.number; intake = c.take_next-next.new.intake; behind = c.behind_of-behind.result }) none
     (sym c.args.self.now.busy ∙ before)
 
 pub still_waiting-self-requires : goal.still_waiting-self-requires
 still_waiting-self-requires g c before =
     let kept = c.index_mut-kept.result.now in
-    ap is_any_waiting c.as_slice-3.ensures.value
-    ∙ waiting_unset c.args.i c.args.self.now.connections.items (record { number = kept.number; intake = c.take_next-next.new.intake; behind = c.behind_of-behind.result })
+    ap is_any_waiting c.as_slice-2.ensures.value
+    ∙ any_unset is_waiting c.args.i c.args.self.now.connections.items (record { number = kept.number; intake = c.take_next-next.new.intake; behind = c.behind_of-behind.result })
     (ap is_waiting c.behind_of-behind.ensures ∙ not_waiting c.take_next-next.new.contents.rest) (sym c.args.self.now.awaiting ∙ before)
 
-pub invariant_of-self-2 : goal.invariant_of-self-2
-invariant_of-self-2 g c = record {
+pub invariant_of-self : goal.invariant_of-self
+invariant_of-self g c = record {
   ascends = ascends_set 0 c.args.self.now.next c.args.i c.args.self.now.connections.items c.index_mut-kept.result.now
       (record { number = c.index_mut-kept.result.now.number; intake = c.take_next-next.new.intake; behind = c.behind_of-behind.result }) c.index_mut-kept.ensures.value refl c.args.self.now.ascends;
-  busy = c.still_pending-self.ensures ∙ ap is_any_pending c.as_slice-2.ensures.value;
-  awaiting = c.still_waiting-self.ensures ∙ ap is_any_waiting c.as_slice-3.ensures.value;
+  busy = c.still_pending-self.ensures ∙ ap is_any_pending c.as_slice.ensures.value;
+  awaiting = c.still_waiting-self.ensures ∙ ap is_any_waiting c.as_slice-2.ensures.value;
 }
-
-pub returns-clause-free : goal.returns-clause-free
-returns-clause-free g c reading there =
-    let index = c.requires.index in
-    let items = c.args.self.now.connections.items in
-    let x = c.index.result.now in
-    subst (λ (r : Reading). IsFree items r) (some_reading x.intake reading (sym (index_some c.args.connection c.args.i items x index c.index.ensures).1 ∙ there))
-    (subst (λ (cs : List Connection). IsFree cs x.intake) c.as_slice.ensures.value (c.kept_back.ensures.free c.in_default.is).1)
 
 pub returns-clause-goes : goal.returns-clause-goes
 returns-clause-goes g c =
@@ -103,7 +53,7 @@ returns-clause-there g c =
     let y = c.take_next-next.ensures in
     let old = outside (g.O.Outlet.taken c.args.out.now) (g.O.Outlet.failures c.args.out.now) (g.A.Archive.condition c.args.self.now.store) in
     let new = outside (with_more (g.O.Outlet.taken c.take_next-next.new.out) y.0) (g.O.Outlet.failures c.take_next-next.new.out) (g.A.Archive.condition c.take_next-next.new.store) in (
-      some_such c.take_next-next.result (next_there c.args.self.now.config c.index_mut-kept.result.now.intake c.args.moment old new c.take_next-next.new.intake.place c.take_next-next.result y.3.answers),
+      (next_there c.args.self.now.config c.index_mut-kept.result.now.intake c.args.moment old new c.take_next-next.new.intake.place c.take_next-next.result y.3.answers),
       stays_there c.args.connection c.args.i c.args.self.now.connections.items c.index_mut-kept.result.now index c.index_mut-kept.ensures.value c.take_next-next.new.intake c.behind_of-behind.result,
     )
 
@@ -113,8 +63,9 @@ returns-clause-replies g c =
     let items = c.args.self.now.connections.items in
     let index = c.requires.index in
     let kept = c.index_mut-kept.result.now in
-    let x = c.index.result.now in
     let b = c.behind_of-behind.result in
+    let found = index_some n c.args.i items kept index c.index_mut-kept.ensures.value in
+    let free = c.requires.free kept.intake found.1 in
     let store = g.A.Archive.condition c.take_next-next.new.store in
     let y = c.take_next-next.ensures in
     let behinds = behinds_are n c.args.i items kept b index c.index_mut-kept.ensures.value c.take_next-next.new.intake _ refl in
@@ -131,8 +82,8 @@ returns-clause-replies g c =
           owed_at s n items _ b behinds (bytes_later y.0)
           (subst (λ (later : Behind). IsOwed s later (bytes_later y.0)) (sym c.behind_of-behind.ensures)
           (owed_later store c.take_next-next.new.contents.rest y.0 y.1 honest s represents));
-      paid = ap is_unsent (behind_some n c.args.i items x index c.index.ensures) ∙ (c.kept_back.ensures.free c.in_default.is).0.0;
-      prepared = ap is_preparing (behind_some n c.args.i items x index c.index.ensures) ∙ (c.kept_back.ensures.free c.in_default.is).0.1;
+      paid = free.0.0;
+      prepared = free.0.1;
       let_go = ap is_looked_at here ∙ not_looked c.take_next-next.new.contents.rest;
       others = others_are n items _ b behinds;
     }
