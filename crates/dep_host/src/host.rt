@@ -3,6 +3,7 @@ ghost use Rattle.std.specs.Prelude.{◌≡◌, ◌≤◌, ℕ, None, length, get
 
 use crate::ending::{Cause, Shut};
 use crate::events::{comes_from, origin, reject};
+use crate::place::{is_read, unfinished};
 use crate::share::Share;
 use dep_hub::{Archive, ConnectFault, Hub};
 use dep_outbox::{Sink, Source, Spool};
@@ -423,26 +424,4 @@ fn empty_slots<R: Drop, K: Drop, S: Drop>(
         }
     }
     Ok(slots)
-}
-
-/// How many bytes of unfinished requests are kept for who is at a place.
-fn unfinished<R: Source, K: Sink, S: Spool>(place: &Option<Slot<R, K, S>>) -> u64
-    ensures { result ≡ unfinished_of place.now }
-{
-    match place {
-        Some(slot) => slot.unfinished(),
-        None => 0,
-    }
-}
-
-/// Whether who is at a place is read, and none of its requests may be complete.
-fn is_read<R: Source, K: Sink, S: Spool>(place: &Option<Slot<R, K, S>>) -> bool
-    ensures read { result ≡ true → IsSomeAnd place.now (λ slot. slot.state.phase ≡ Open) }
-    ensures unread { result ≡ false
-        → IsSomeAnd place.now (λ slot. slot.state.phase ≡ Open) → ⊥ }
-{
-    match place {
-        Some(slot) => slot.is_read(),
-        None => false,
-    }
 }

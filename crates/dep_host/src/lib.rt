@@ -5,6 +5,7 @@ mod ending;
 mod events;
 mod host;
 pub mod laws;
+mod place;
 mod serving;
 mod share;
 
