@@ -19,9 +19,6 @@ use std::alloc::Global;
 /// it is kept how far they were hashed.
 const MOST_HASHED: usize = 1_024;
 
-/// How many blocks of them are hashed at once. Whoever asks meanwhile waits for up to three such parts.
-const BLOCKS_AT_ONCE: u64 = 16;
-
 // The digests of an upload that is there, where no segment is missing.
 fn digests_if_whole<T: Statements>(
     tx: &mut T,
@@ -88,7 +85,7 @@ fn hash_uploads<T: Statements>(
     Ok(UploadViews::from_vec(hashed))
 }
 
-/// Hashes up to 16 blocks (1 MiB) of the uploads of these numbers, which references name, one after
+/// Hashes up to so many blocks of the uploads of these numbers, which references name, one after
 /// another, and returns whether more may be left: of the first 1,024, so that none of them gives way
 /// to another. Of each one row is read, and none of a segment. Where one isn't there, or lacks a
 /// segment, nothing behind it is hashed, since it refuses the deposit.
@@ -96,11 +93,12 @@ pub fn hash_named<T: Statements>(
     tx: &mut T,
     running: &mut RunningHashes,
     uploads: &[u64],
+    blocks: u64,
 ) -> Result<bool, StoreFault>
     ensures does { MayReadOver T.lenders T.state tx.old tx.new result
         (λ s. IsSound s → AreRunning s running.old → AreRunning s running.new) }
 {
-    let mut left = BLOCKS_AT_ONCE;
+    let mut left = blocks;
     for upload in &uploads[..uploads.len().min(MOST_HASHED)] {
         match hash_some(tx, running, *upload, left)? {
             None => return Ok(false),
