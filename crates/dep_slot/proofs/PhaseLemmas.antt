@@ -5,11 +5,11 @@ use Rattle.dep_hub.specs.declared.sent_on.SentOn.TheVariants.{Part, All, Broken}
 use Rattle.dep_hub.specs.declared.arrived.Arrived.{Arrived}
 use Rattle.dep_hub.specs.declared.arrived.Arrived.TheVariants as came
 use Rattle.dep_hub.specs.declared.next.Next.{Next}
-use Rattle.dep_hub.specs.declared.next.Next.TheVariants.{More, Waiting, Closed, Cut, NoSuch}
+use Rattle.dep_hub.specs.declared.next.Next.TheVariants.{More, Waiting, NoSuch}
 use Rattle.dep_slot.specs.declared.connection_state.Phase.{Phase}
 use Rattle.dep_slot.specs.declared.connection_state.Phase.TheVariants.{Open, Answering, Sending, SendingLast, Last, Draining, Over}
 use Rattle.dep_slot.specs.declared.connection_state.NextAction.{NextAction}
-use Rattle.dep_slot.specs.declared.connection_state.NextAction.TheVariants.{Flush, Answer, Send, Read, Finish, Drain, Wait}
+use Rattle.dep_slot.specs.declared.connection_state.NextAction.TheVariants.{Flush, Send, Finish, Drain}
 use Rattle.dep_slot.specs.ConnectionStates.{next_action, action_sending, is_ended, is_sending, phase_begun, SendsStill}
 use Rattle.dep_slot.specs.Slots.{phase_offered, phase_answered, phase_sent}
 

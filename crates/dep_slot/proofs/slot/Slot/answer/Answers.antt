@@ -1,4 +1,4 @@
-use Rattle.std.proofs.Common.{refl, ap, ◌∙◌}
+use Rattle.std.proofs.Common.{refl}
 use Rattle.dep_slot.specs.Causes.{causes_of}
 use Rattle.dep_slot.proofs.SlotLemmas.{answered, delayed}
 use Rattle.dep_slot.proofs.slot.Slot.answer.Goals as goal
