@@ -205,7 +205,7 @@ impl<A: Archive, R: Source + Drop, K: Sink + Drop, S: Spool + Drop> Host<A, R, K
         true
     }
 
-    /// Opens a connection over a socket that has taken nothing, and slots it there. Where it is
+    /// Opens a connection over a socket that has taken nothing, and puts it there. Where it is
     /// refused its client is cut off.
     pub fn admit<L: HostLog>(
         &mut self,

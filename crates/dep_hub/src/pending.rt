@@ -62,7 +62,7 @@ fn is_waiting(behind: Behind) -> bool
     }
 }
 
-/// Where the one of them represents whose next request the fewest steps were made, of those that are prepared;
+/// The place of the one of them for whose next request the fewest steps were made, of those that are prepared;
 /// of equals the first.
 pub(crate) fn least_prepared(connections: &[Connection]) -> Option<usize>
     ensures { MatchOption result (HaveAtMost connections.now 0)

@@ -28,7 +28,7 @@ pub fn address(port: u16) -> SocketAddr
     SocketAddr::new(IpAddr::V4(Ipv4Addr::LOCALHOST), port)
 }
 
-/// Listens at the acceptor, and serves so many connections over the hub, one after another, each piece at the machine's
+/// Listens at the port, and serves so many connections over the hub, one after another, each piece at the machine's
 /// clock. It is a fault of the transfer where the port can't be had, or accepting fails.
 pub fn serve_at<R: Net<Listener = TcpListener, Stream = TcpStream> + Clock, A: Archive>(
     rt: &R,

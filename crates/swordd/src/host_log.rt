@@ -233,7 +233,7 @@ impl AcceptorLog for StandardErrorLog<'_> {
         }
     }
 
-    // Where no more comes, no line: how that came the acceptor tells.
+    // Where no more comes, no line: how that came the acceptor reports.
     fn ended(&mut self, why: Option<Ended>) {
         let line = match why {
             Some(Ended::Events) => return,
