@@ -13,7 +13,8 @@ mod HoldingLemmas
 mod OwingLemmas
 mod BehindLemmas
 mod PendingLemmas
-mod LeastLemmas
+mod TurnLemmas
+mod SourceLemmas
 mod KeptLemmas
 pub mod PreparingLemmas
 mod LookLemmas

@@ -17,11 +17,11 @@ use Rattle.dep_hub.specs.Claims.{is_content, is_pending, is_waiting}
 use Rattle.dep_hub.specs.Holding.{IsHeldAs}
 use Rattle.dep_hub.specs.Numbers.{index_of, Ascends}
 use Rattle.dep_hub.specs.Owing.{IsOwed}
-use Rattle.dep_hub.specs.Preparing.{MakesStepFor, goes_on, ends, HaveAtMost, is_preparing, steps_of}
+use Rattle.dep_hub.specs.Preparing.{HasTurn, MakesStepFor, goes_on, ends, is_preparing, steps_of}
 use Rattle.dep_hub.specs.Records.{Run, stops, stopped, first_world}
 use Rattle.dep_hub.specs.Representing.{intake_of, store_of}
 use Rattle.dep_hub.specs.RepresentsOwing.{KeptBack, unsent, prepares_still, begins_to_prepare, waits_still, begins_to_wait, lacks_memory, behind_at}
-use Rattle.dep_hub.specs.WorkingAhead.{AheadContents, AheadEnds, AheadRepresents, MakesOneStep, for_none, for_one, PreparesOnce, RestsAhead, steps_below}
+use Rattle.dep_hub.specs.WorkingAhead.{AheadContents, AheadEnds, AheadRepresents, AheadTakesTurns, IsTurnOf, MakesOneStep, for_none, for_one, PreparesOnce, RestsAhead, steps_below}
 use Rattle.dep_hub.specs.declared.claim.Claim.{Claim}
 use Rattle.dep_hub.specs.declared.connections.Connection.{Connection}
 use Rattle.dep_hub.specs.declared.hub.Hub.{Hub}
@@ -30,7 +30,7 @@ use Rattle.dep_hub.specs.declared.rest.Behind.TheVariants.{Nothing, Content, Bro
 use Rattle.dep_hub.proofs.BehindLemmas.{behind_some, behinds_are, intakes_stay, others_are}
 use Rattle.dep_hub.proofs.ConnectionLemmas.{ascends_le}
 use Rattle.dep_hub.proofs.Leaving.{leaves_wider}
-use Rattle.dep_hub.proofs.LeastLemmas.{have_by_number}
+use Rattle.dep_hub.proofs.TurnLemmas.{turn_of, turns_fewer, was_prepared}
 use Rattle.dep_hub.proofs.PendingLemmas.{true_false}
 
 -- a request that stands first begins with a head
@@ -69,7 +69,7 @@ behind_beyond low high n (c ∷ cs) a l =
     let below : c.number + 1 ≤ high = ascends_le (c.number + 1) high cs a.1 in
     let h = behind_beyond (c.number + 1) high n cs a.1 l in grind (arith, nat_tests, h)
 
-preparing_below : (n high : ℕ) (cs : List Connection) → Ascends 0 cs high → is_preparing (behind_at cs n) ≡ true → n < high
+pub preparing_below : (n high : ℕ) (cs : List Connection) → Ascends 0 cs high → is_preparing (behind_at cs n) ≡ true → n < high
 preparing_below n high cs a e = elim (cases_lt n high) [
   | inl lt ↦ lt
   | inr ge ↦ absurd (true_false (sym e ∙ ap is_preparing (behind_beyond 0 high n cs a ge)))
@@ -146,27 +146,31 @@ steps_fewer xs ys (suc n) k l others fewer = elim (cases_lt k n) [
 ]
 
 -- a step was made where a connection stands
-pub one_step : (next : ℕ) (old new : List Connection) → Ascends 0 old next → (i : ℕ) (c : Connection) (b : Behind) → i < length old → c ≡ get_or old i c
-    → MakesStepFor c.behind b → HaveAtMost old (steps_of c.behind) → new ≡ set old i (record { number = c.number; intake = c.intake; behind = b })
-    → MakesOneStep old new × ((m : ℕ) → intake_of new m ≡ intake_of old m)
-one_step next old new ascends i c b within item step least changed =
+one_step : {A : Type 0} (old new : Hub A) (i : ℕ) (c : Connection) (b : Behind) → c ≡ get_or old.connections.items i c
+    → MakesStepFor c.behind b → HasTurn old.connections.items old.last_turn old.next i → new.last_turn ≡ c.number
+    → new.connections.items ≡ set old.connections.items i (record { number = c.number; intake = c.intake; behind = b })
+    → MakesOneStep old new × ((m : ℕ) → intake_of new.connections.items m ≡ intake_of old.connections.items m)
+one_step old new i c b item step turn last changed =
     let n = c.number in
-    let index = (index_at 0 next i old c ascends within item).0 in
-    let behinds = behinds_are n i old c b index item c.intake new changed in
-    let was = behind_some n i old c index item in
-    let here = behinds n ∙ ap (λ (t : Bool). if t then b else behind_at old n) (eq-eqb n n refl) in (
-      for_one n (subst (λ (x : Behind). MakesStepFor (behind_at old n) x) (sym here)
+    let was_at = old.connections.items in
+    let is_at = new.connections.items in
+    let within = (was_prepared was_at old.last_turn old.next i c item turn).0 in
+    let index = (index_at 0 old.next i was_at c old.ascends within item).0 in
+    let behinds = behinds_are n i was_at c b index item c.intake is_at changed in
+    let was = behind_some n i was_at c index item in
+    let here = behinds n ∙ ap (λ (t : Bool). if t then b else behind_at was_at n) (eq-eqb n n refl) in (
+      for_one n (subst (λ (x : Behind). MakesStepFor (behind_at was_at n) x) (sym here)
           (subst (λ (x : Behind). MakesStepFor x b) (sym was) step))
-          (others_are n old new b behinds)
-          (λ m. subst (λ (x : Behind). steps_of (behind_at old m) ≤ steps_of x) (sym was) (have_by_number old (steps_of c.behind) least m)),
-      intakes_stay n i old c b index item new changed,
+          (others_are n was_at is_at b behinds)
+          (turn_of was_at old.last_turn old.next i c item turn) last,
+      intakes_stay n i was_at c b index item is_at changed,
     )
 
 -- ---- a hub that worked ahead
 
 module _ {A : Type 0} (condition : A → Condition) (old new : Hub A) where
   pub works_ahead : new.config ≡ old.config → new.next ≡ old.next → ((m : ℕ) → intake_of new.connections.items m ≡ intake_of old.connections.items m)
-      → MakesOneStep old.connections.items new.connections.items → KeepsEachState (store_of condition old) (store_of condition new) → RestsAhead condition old new
+      → MakesOneStep old new → KeepsEachState (store_of condition old) (store_of condition new) → RestsAhead condition old new
   works_ahead config next intakes step store = record {
     represents = λ clean first records held h. record {
       world = h.world;
@@ -187,11 +191,19 @@ module _ {A : Type 0} (condition : A → Condition) (old new : Hub A) where
     step = step;
   }
 
+  -- a step was made for a connection that stands there
+  pub steps_ahead : new.config ≡ old.config → new.next ≡ old.next → (i : ℕ) (c : Connection) (b : Behind) → c ≡ get_or old.connections.items i c
+      → MakesStepFor c.behind b → HasTurn old.connections.items old.last_turn old.next i → new.last_turn ≡ c.number
+      → new.connections.items ≡ set old.connections.items i (record { number = c.number; intake = c.intake; behind = b })
+      → KeepsEachState (store_of condition old) (store_of condition new) → RestsAhead condition old new
+  steps_ahead config next i c b item step turn last changed store =
+      let o = one_step old new i c b item step turn last changed in works_ahead config next o.1 o.0 store
+
   -- so what is owed, and what is being sent
   by_number : (f : Behind → Behind → Type 0) → ((b : Behind) → f b b) → ((was now : Behind) → MakesStepFor was now → f was now)
-      → MakesOneStep old.connections.items new.connections.items → (m : ℕ) → f (behind_at old.connections.items m) (behind_at new.connections.items m)
+      → MakesOneStep old new → (m : ℕ) → f (behind_at old.connections.items m) (behind_at new.connections.items m)
   by_number f same made (for_none none e) m = subst (λ (cs : List Connection). f (behind_at old.connections.items m) (behind_at cs m)) (sym e) (same (behind_at old.connections.items m))
-  by_number f same made (for_one n step others least) m = elim (cases_Bool (m == n)) [
+  by_number f same made (for_one n step others turn last) m = elim (cases_Bool (m == n)) [
     | inl here ↦ subst (λ (k : ℕ). f (behind_at old.connections.items k) (behind_at new.connections.items k)) (sym (eqb-true m n here)) (made (behind_at old.connections.items n) (behind_at new.connections.items n) step)
     | inr other ↦
         let apart : m ≢ n = grind (arith, nat_tests, other) in
@@ -221,12 +233,27 @@ module _ {A : Type 0} (condition : A → Condition) (old new : Hub A) where
   pub ahead_ends : AheadEnds condition old new
   ahead_ends w m is = elim w.step [
     | for_none none e ↦ absurd (true_false (sym is ∙ none m))
-    | for_one n step others least ↦
+    | for_one n step others turn last ↦
         let was = was_preparing (behind_at old.connections.items n) (behind_at new.connections.items n) step in
         let below = preparing_below n old.next old.connections.items old.ascends was in
         subst (λ (k : ℕ). steps_below new.connections.items k < steps_below old.connections.items old.next) (sym w.next)
         (steps_fewer old.connections.items new.connections.items old.next n below others
         (step_fewer (behind_at old.connections.items n) (behind_at new.connections.items n) step))
+  ]
+
+  pub ahead_takes_turns : AheadTakesTurns condition old new
+  ahead_takes_turns w m is = elim w.step [
+    | for_none none e ↦ absurd (true_false (sym is ∙ none m))
+    | for_one n step others turn last ↦
+        let was = was_preparing (behind_at old.connections.items n) (behind_at new.connections.items n) step in
+        let below = preparing_below n old.next old.connections.items old.ascends was in
+        let within = preparing_below m old.next old.connections.items old.ascends is in
+        elim (cases_Bool (m == n)) [
+          | inl here ↦ inl (subst (λ (k : ℕ). MakesStepFor (behind_at old.connections.items k) (behind_at new.connections.items k)) (sym (eqb-true m n here)) step)
+          | inr other ↦
+              let apart : m ≢ n = grind (arith, nat_tests, other) in
+              inr (turns_fewer old new n m w.next w.intakes turn last was below is within apart)
+        ]
   ]
 
 waits_as : (b : Behind) (claim : Claim) → b ≡ Waits claim → is_preparing b ≡ true → ⊥

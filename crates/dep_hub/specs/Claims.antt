@@ -1,12 +1,12 @@
 -- What requests have to do with contents that are sent in steps.
-use Rattle.std.specs.Prelude.{ℕ, ◌==◌, ◌&&◌, Bool, true, false, List}
-use Rattle.std.specs.Option.{option_map_or}
+use Rattle.std.specs.Prelude.{ℕ, ◌==◌, ◌&&◌, Bool, true, false, List, Option, None, Some}
 use Rattle.std.specs.List.{list_any}
 use Rattle.dep_types.specs.declared.target.Resource.{Resource}
-use Rattle.dep_types.specs.declared.target.Resource.TheVariants.{Object, FileSet, File, BagFile}
+use Rattle.dep_types.specs.declared.target.Resource.TheVariants.{Object, FileSet, File}
 use Rattle.dep_types.specs.declared.target.Method.{Method}
 use Rattle.dep_types.specs.declared.target.Method.TheVariants.{Get, Put, Delete}
-use Rattle.dep_bag.specs.Numbered.{file_number}
+use Rattle.dep_answers.specs.Laws.{file_read}
+use Rattle.dep_answers.specs.declared.performed.FileId.{FileId}
 use Rattle.dep_head.specs.Head.{HeadParts}
 use Rattle.dep_router.specs.Targets.{target}
 use Rattle.dep_router.specs.declared.routed.Routed.{Routed}
@@ -31,11 +31,14 @@ taken_of (FileSet n) = Takes (All n)
 taken_of (File n f) = Takes (One n f)
 taken_of resource = Neither
 
+-- a file is read, if one is
+abbrev pub reads_of : Option FileId → Claim
+reads_of None = Neither
+reads_of (Some id) = Reads id.object id.file
+
 -- a GET reads the content of a file, by its own path or by its path in the bag
 abbrev pub read_of : Resource → Claim
-read_of (File n f) = Reads n f
-read_of (BagFile n path) = option_map_or (λ f. Reads n f) (file_number path) Neither
-read_of resource = Neither
+read_of resource = reads_of (file_read resource)
 
 abbrev pub claim_to : Resource → Method → Claim
 claim_to resource Put = taken_of resource

@@ -56,7 +56,7 @@ starting_state config s (Request m) moment = tick config s moment
 unfoldable pub step : Config → State → Item → ℕ → Stepped
 step config s (Fault r head_only) moment = refused_step (tick config s moment) r None head_only true
 step config s Continue moment =
-    record { state = s; front = continue_line; stored = []; closes = false }
+    record { state = s; front = continue_line; stored = []; source = None; closes = false }
 step config s (Request m) moment = message_step config (tick config s moment) m
 
 -- the state after these items, one step each

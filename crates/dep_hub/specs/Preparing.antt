@@ -1,5 +1,5 @@
 -- Requests whose uploads are hashed before they are answered.
-use Rattle.std.specs.Prelude.{◌≡◌, ◌⊎◌, ◌<◌, ◌≤◌, ℕ, ◌+◌, ◌&&◌, ◌||◌, Bool, true, false, List, length, get_or, Option, Some, None, codes, bytes_eq}
+use Rattle.std.specs.Prelude.{◌≡◌, ◌⊎◌, ◌<◌, ◌≤◌, ℕ, ◌+◌, ◌&&◌, ◌||◌, nat_lt, Bool, true, false, List, length, get_or, Option, Some, None, codes, bytes_eq, if◌then◌else◌}
 use Rattle.dep_head.specs.Head.{HeadParts}
 use Rattle.dep_fields.specs.Reported.{fields_of}
 use Rattle.dep_fields.specs.declared.field.Field.{Field}
@@ -55,16 +55,26 @@ abbrev pub steps_of : Behind → ℕ
 steps_of (Prepares left) = left + 1
 steps_of behind = 0
 
--- no next request of these connections needs more steps than so many
-abbrev pub HaveAtMost : List Connection → (most : ℕ) → Type 0
-HaveAtMost connections most = (j : ℕ) (c : Connection) → j < length connections
-    → c ≡ get_or connections j c → steps_of c.behind ≤ most
+-- behind its number, where that is below this one and its next request is prepared
+abbrev pub prepared_below : (below : ℕ) → Connection → ℕ
+prepared_below below c =
+    if is_preparing c.behind then if nat_lt c.number below then c.number + 1 else 0 else 0
 
--- the next request of this one is prepared, and for no other that is were fewer steps made
-abbrev pub IsLeastPrepared : List Connection → (i : ℕ) → Type 0
-IsLeastPrepared connections i = (i < length connections)
-    × ((c : Connection) → c ≡ get_or connections i c → (is_preparing c.behind ≡ true)
-    × HaveAtMost connections (steps_of c.behind))
+-- so it is with none of these at a greater number
+abbrev pub HaveAtMost : List Connection → (below most : ℕ) → Type 0
+HaveAtMost connections below most = (j : ℕ) (c : Connection) → j < length connections
+    → c ≡ get_or connections j c → prepared_below below c ≤ most
+
+-- of those below a number whose next request is prepared this one has the greatest
+abbrev pub IsGreatestBelow : List Connection → (below i : ℕ) → Type 0
+IsGreatestBelow connections below i = (i < length connections)
+    × ((c : Connection) → c ≡ get_or connections i c → (0 < prepared_below below c)
+    × HaveAtMost connections below (prepared_below below c))
+
+-- it is its turn behind the last one's: the greatest below that, or where there is none the greatest of all
+abbrev pub HasTurn : List Connection → (last next i : ℕ) → Type 0
+HasTurn connections last next i = IsGreatestBelow connections last i
+    ⊎ (HaveAtMost connections last 0 × IsGreatestBelow connections next i)
 
 -- a step was made for it: another may follow, or it may be answered
 pub data MakesStepFor (was now : Behind) : Type 0 where

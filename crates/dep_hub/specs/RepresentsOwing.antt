@@ -146,6 +146,11 @@ module _ {A : Type 0} (condition : A → Condition) where
       → Represents (store_of condition hub) s
       → IsOwed s (behind_at hub.connections.items number) owed
 
+  -- no waiting request takes the file of a content that begins
+  abbrev pub BeginsUnawaited : Hub A → Hub A → (number : ℕ) → Type 0
+  BeginsUnawaited old new number = IsHonest condition new → (w : World) → (held : ℕ → List ℕ)
+      → RepresentsHolding condition old w held → is_awaited_at new.connections.items number ≡ false
+
   -- nothing is answered
   pub record KeepsBack (taken takes : Option (List ℕ)) (failures failures_after : ℕ) (old new : Hub A)
       (number : ℕ) : Type 0 where
@@ -175,6 +180,7 @@ module _ {A : Type 0} (condition : A → Condition) where
     pub prepared : is_preparing (behind_at old.connections.items number) ≡ false
     pub let_go : is_looked_at (behind_at new.connections.items number) ≡ false
     pub others : OthersStay old new number
+    pub unawaited : BeginsUnawaited old new number
 
   -- some of the bytes that were owed are sent, and the rest is owed; nothing else changes
   pub record SendsOn (taken takes : Option (List ℕ)) (failures failures_after : ℕ) (old new : Hub A)

@@ -1,17 +1,19 @@
 -- How far an arrival has been served.
-use Rattle.std.specs.Prelude.{◌≡◌, ◌⊎◌, ℕ, true, List, IsTrue}
+use Rattle.std.specs.Prelude.{◌≡◌, ◌⊎◌, ℕ, true, List, Some, IsTrue}
 use Rattle.dep_types.specs.State.{State}
 use Rattle.dep_types.specs.Writing.{HasRisen}
 use Rattle.dep_types.specs.declared.config.Config.{Config}
 use Rattle.dep_message.specs.Heads.{closes}
 use Rattle.dep_message.specs.Places.{Place, Shut, Reading, place_with}
-use Rattle.dep_message.specs.Stream.{Item, Fault, Continue, Request, Reads}
-use Rattle.dep_types.specs.Conditions.{Represents, HasCleanDisk, Leaves}
+use Rattle.dep_message.specs.Stream.{FirstAt, Item, Fault, Continue, Request, Reads}
+use Rattle.dep_types.specs.Conditions.{Condition, Represents, HasCleanDisk, Leaves}
+use Rattle.dep_answers.specs.Performing.{file_id}
 use Rattle.dep_hub.specs.Machine.{step, replies, state_after, continue_line, Fails, Serves}
 use Rattle.dep_hub.specs.Stops.{LeftByFailure, LeftByServing}
 use Rattle.dep_hub.specs.Causes.{IsCutInContent, EndsInContent}
 use Rattle.dep_hub.specs.Sending.{IsSentUpTo, IsReplySent, Outside, Passes, SendsAll}
 use Rattle.dep_hub.specs.Shut.{LeavesNoMore, IfShut, continues, IsFixed, SendsFixed}
+use Rattle.dep_hub.specs.declared.rest.Rest.{Rest}
 use Rattle.dep_hub.specs.declared.arrived.Arrived.{Arrived}
 use Rattle.dep_hub.specs.declared.arrived.Arrived.TheVariants.{Open as StaysOpen, Closed, Cut}
 use Rattle.dep_hub.specs.declared.serving.Piece.{Piece}
@@ -55,6 +57,16 @@ abbrev pub IsAnsweredShut : Item → List ℕ → Answered → Type 0
 IsAnsweredShut Continue sent answer = IsReplySent continue_line sent answer
 IsAnsweredShut (Fault r head_only) sent answer = IsFixedSent sent answer
 IsAnsweredShut (Request m) sent answer = IsFixedSent sent answer
+
+-- what is still to be sent is the content of the file that the step names
+abbrev pub BeginsSource : Config → Item → (moment : ℕ) → (old new : Condition) → Rest → Type 0
+BeginsSource config item moment old new r = HasCleanDisk new → (s : State) → Represents old s
+    → (step config s item moment).source ≡ Some (file_id r.file)
+
+-- so it is with the item that stands first
+abbrev pub BeginsFirst : Config → Reading → (moment : ℕ) → (old new : Condition) → Rest → Type 0
+BeginsFirst config reading moment old new r = (item : Item) × (next : Place)
+    × FirstAt reading.limit reading.place item next × BeginsSource config item moment old new r
 
 -- An item is answered. The bytes are known without the state: whatever state the store represented,
 -- they are sent for it.

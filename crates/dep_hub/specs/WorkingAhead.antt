@@ -1,5 +1,5 @@
 -- What working ahead does to a hub, and how the preparing of requests ends.
-use Rattle.std.specs.Prelude.{◌≡◌, ◌≢◌, ◌⊎◌, ◌<◌, ◌≤◌, ◌+◌, ℕ, zero, suc, true, false, List, Option, Some}
+use Rattle.std.specs.Prelude.{◌≡◌, ◌⊎◌, ◌<◌, ◌≤◌, ◌+◌, ◌&&◌, ◌||◌, nat_lt, is_some, ℕ, zero, suc, Bool, true, false, List, Option, Some, if◌then◌else◌}
 use Rattle.dep_types.specs.Conditions.{Condition}
 use Rattle.dep_hub.specs.Records.{World}
 use Rattle.dep_hub.specs.Archives.{KeepsEachState}
@@ -7,24 +7,55 @@ use Rattle.dep_hub.specs.Representing.{store_of, intake_of, IsClean}
 use Rattle.dep_hub.specs.Holding.{RepresentsOn, StopsOn}
 use Rattle.dep_hub.specs.Claims.{is_content}
 use Rattle.dep_hub.specs.Preparing.{MakesStepFor, is_preparing, steps_of}
-use Rattle.dep_hub.specs.RepresentsOwing.{KeepsBack, RepresentsOwing, behind_at}
+use Rattle.dep_hub.specs.RepresentsOwing.{KeepsBack, OthersStay, RepresentsOwing, behind_at}
 use Rattle.dep_hub.specs.declared.rest.Behind.TheVariants.{Nothing, Broken}
 use Rattle.dep_hub.specs.declared.connections.Connection.{Connection}
 use Rattle.dep_hub.specs.declared.hub.Hub.{Hub}
 
--- A step is made for a connection whose next request is prepared, if there is such a one: for one of those for
--- which the fewest were made.
-pub data MakesOneStep (old new : List Connection) : Type 0 where
-  for_none : ((m : ℕ) → is_preparing (behind_at old m) ≡ false) → new ≡ old → MakesOneStep old new
-  for_one : (number : ℕ) → MakesStepFor (behind_at old number) (behind_at new number)
-      → ((m : ℕ) → m ≢ number → behind_at new m ≡ behind_at old m)
-      → ((m : ℕ) → steps_of (behind_at old m) ≤ steps_of (behind_at old number))
+-- no connection whose next request is prepared has a number below this one, but above that
+abbrev pub IsNoneBetween : List Connection → (low high : ℕ) → Type 0
+IsNoneBetween connections low high = (m : ℕ) → is_preparing (behind_at connections m) ≡ true
+    → m < high → m ≤ low
+
+-- It is the turn of a number: of those below the last one's the greatest, or where there is none the greatest of
+-- all. So who comes later, and has a greater number, doesn't come before who waits.
+pub data IsTurnOf (connections : List Connection) (last next number : ℕ) : Type 0 where
+  goes_down : number < last → IsNoneBetween connections number last
+      → IsTurnOf connections last next number
+  begins_anew : ((m : ℕ) → is_preparing (behind_at connections m) ≡ true → last ≤ m)
+      → IsNoneBetween connections number next → IsTurnOf connections last next number
+
+-- a step is made for a connection whose next request is prepared, if there is such a one: for the one whose turn it is
+pub data MakesOneStep {A : Type 0} (old new : Hub A) : Type 0 where
+  for_none : ((m : ℕ) → is_preparing (behind_at old.connections.items m) ≡ false)
+      → new.connections.items ≡ old.connections.items → MakesOneStep old new
+  for_one : (number : ℕ)
+      → MakesStepFor (behind_at old.connections.items number) (behind_at new.connections.items number)
+      → OthersStay old new number
+      → IsTurnOf old.connections.items old.last_turn old.next number → new.last_turn ≡ number
       → MakesOneStep old new
 
 -- how many steps end what is prepared for the connections with numbers below this, at most
 abbrev pub steps_below : List Connection → (next : ℕ) → ℕ
 steps_below connections zero = 0
 steps_below connections (suc n) = steps_below connections n + steps_of (behind_at connections n)
+
+-- A number has its turn before another: going down from the last one's to 0, and then from the greatest.
+abbrev pub is_turn_before : (last number before : ℕ) → Bool
+is_turn_before last number before =
+    if nat_lt number last then nat_lt number before && nat_lt before last
+    else nat_lt number before || nat_lt before last
+
+-- how many connections of numbers below this have their turn before another
+abbrev pub turns_below : {A : Type 0} → Hub A → (number next : ℕ) → ℕ
+turns_below hub number zero = 0
+turns_below hub number (suc n) = turns_below hub number n
+    + (if is_some (intake_of hub.connections.items n) && is_turn_before hub.last_turn number n then 1
+    else 0)
+
+-- so many turns come before that of a number
+abbrev pub turns_before : {A : Type 0} → Hub A → (number : ℕ) → ℕ
+turns_before hub number = turns_below hub number hub.next
 
 -- for all of a hub
 abbrev pub steps_left : {A : Type 0} → Hub A → ℕ
@@ -41,7 +72,7 @@ module _ {A : Type 0} (condition : A → Condition) where
     pub next : new.next ≡ old.next
     pub intakes : (m : ℕ)
         → intake_of new.connections.items m ≡ intake_of old.connections.items m
-    pub step : MakesOneStep old.connections.items new.connections.items
+    pub step : MakesOneStep old new
 
   -- what is owed stays
   abbrev pub AheadRepresents : Hub A → Hub A → Type 0
@@ -60,6 +91,14 @@ module _ {A : Type 0} (condition : A → Condition) where
   abbrev pub AheadEnds : Hub A → Hub A → Type 0
   AheadEnds old new = RestsAhead old new → (m : ℕ)
       → is_preparing (behind_at old.connections.items m) ≡ true → steps_left new < steps_left old
+
+  -- It makes a step for a request that is prepared, or fewer turns come before that one's: as many calls as there are
+  -- connections make one.
+  abbrev pub AheadTakesTurns : Hub A → Hub A → Type 0
+  AheadTakesTurns old new = RestsAhead old new → (m : ℕ)
+      → is_preparing (behind_at old.connections.items m) ≡ true
+      → MakesStepFor (behind_at old.connections.items m) (behind_at new.connections.items m)
+      ⊎ (turns_before new m < turns_before old m)
 
   -- that begins where the request wasn't looked at before, and else goes on as it was
   abbrev pub PreparesOnce : Hub A → Hub A → Type 0

@@ -1,5 +1,5 @@
 //! How the content of a file goes out behind the front of a reply.
-ghost use Rattle.std.specs.Prelude.{◌≡◌, Option, None, OnOk};
+ghost use Rattle.std.specs.Prelude.{◌≡◌, Option, None, IfSome, OnOk};
 ghost use Rattle.dep_hub.specs.Archives.{KeepsState};
 ghost use Rattle.dep_hub.specs.Owing.{SendsContent, TakesSome};
 
@@ -25,6 +25,7 @@ pub(crate) trait Contents {
         requires { rest self.old ≡ None }
         ensures sends { SendsContent (A.condition store.old) (A.condition store.new)
             (O.taken out.old) (O.taken out.new) it (rest self.new) result }
+        ensures begins { IfSome (rest self.new) (λ r. r.file ≡ it) }
         ensures does { KeepsState (A.condition store.old) (A.condition store.new) result }
         ensures takes { TakesSome (O.taken out.old) (O.taken out.new) }
         ensures kept { OnOk result (O.failures out.new ≡ O.failures out.old) };

@@ -16,7 +16,7 @@ use crate::faults::{ConnectFault, HubFault};
 use crate::keeping::{Look, look_at};
 use crate::next::Next;
 use crate::pending::{
-    has_to_wait, is_any_pending, is_any_waiting, is_awaited, least_prepared, still_pending,
+    has_to_wait, is_any_pending, is_any_waiting, is_awaited, next_prepared, still_pending,
     still_waiting, waits_on,
 };
 use crate::preparing::prepare;
@@ -36,6 +36,8 @@ pub struct Hub<A> {
     store: A,
     connections: Vec<Connection>,
     next: u64,
+    // The number of the connection for whose next request `work_ahead` made a step last.
+    last_turn: u64,
     // A content is being sent, or a request waits.
     is_busy: bool,
     // A request waits.
@@ -94,6 +96,7 @@ impl<A: Archive> Hub<A> {
             store,
             connections: Vec::new(alloc),
             next: 0,
+            last_turn: 0,
             is_busy: false,
             is_awaiting: false,
         })
@@ -413,9 +416,9 @@ impl<A: Archive> Hub<A> {
     }
 
     /// Does a part of the work that a later request would have to wait for, and returns whether more is left
-    /// (`Archive::work_ahead`). Where requests are kept back until their uploads are hashed it is a part of that, for the
-    /// one of them for which the fewest were made; it is answered by `reply` once no more of it is left, or so many steps
-    /// were made as may be. It is no event of a run.
+    /// (`Archive::work_ahead`). Where requests are kept back until their uploads are hashed it is a part of that, for each of
+    /// them in turn; it is answered by `reply` once no more of it is left, or so many steps were made as may be. It is no event
+    /// of a run.
     pub fn work_ahead(&mut self) -> bool
         ensures asked { Runs (WorkedAhead result) (A.call_log self.old.store)
             (A.call_log self.new.store) }
@@ -425,9 +428,10 @@ impl<A: Archive> Hub<A> {
             (store_of A.condition self.old) (store_of A.condition self.new) }
         ensures rests { RestsAhead A.condition self.old self.new }
     {
-        let Some(i) = least_prepared(self.connections.as_slice()) else {
+        let Some(i) = next_prepared(self.connections.as_slice(), self.last_turn, self.next) else {
             return self.store.work_ahead(self.config.service(), None);
         };
+        self.last_turn = self.connections[i].number;
         prepare(&self.config, &mut self.store, &mut self.connections[i])
     }
 
@@ -470,6 +474,7 @@ impl<A: Archive> Hub<A> {
             store,
             connections,
             next: _,
+            last_turn: _,
             is_busy: _,
             is_awaiting: _,
         } = self;

@@ -4,7 +4,7 @@ ghost use Rattle.dep_hub.specs.Records.{Connect, Close, Absent, Live, World};
 ghost use Rattle.dep_hub.specs.Representing.{RepresentsAt};
 ghost use Rattle.dep_hub.specs.Holding.{RepresentsHolding, AnswersAdd, AnswersStop, LineAdds, StopsAnswered, with_held};
 ghost use Rattle.dep_hub.specs.RepresentsOwing.{AnswersAtOnce, AwaitsContent, AwaitsTaker, ContentsStay, RepliesAdd, RepliesKeep, SendingRepresents, WaitingRepresents};
-ghost use Rattle.dep_hub.specs.WorkingAhead.{AheadContents, AheadEnds, AheadRepresents, PreparesOnce};
+ghost use Rattle.dep_hub.specs.WorkingAhead.{AheadContents, AheadEnds, AheadRepresents, AheadTakesTurns, PreparesOnce};
 ghost use Rattle.dep_hub.specs.declared.hub.Hub.{Hub as AnyHub};
 
 use crate::archive::Archive;
@@ -66,9 +66,11 @@ pub fn working_ahead_is_no_event<A: Archive>()
 {}
 
 /// While a request is kept back as it is prepared, each time of working ahead leaves fewer steps, of all that there are for
-/// the connections. A step more comes by a request alone that wasn't looked at before. So each is answered in the end.
+/// the connections. A step more comes by a request alone that wasn't looked at before. And for each a step is made in its turn,
+/// before which fewer others come each time, and none that begins later. So each is answered in the end.
 pub fn what_is_prepared_ends<A: Archive>()
     ensures fewer { (old new : AnyHub A) → AheadEnds A.condition old new }
+    ensures turns { (old new : AnyHub A) → AheadTakesTurns A.condition old new }
     ensures once { (old new : AnyHub A) → PreparesOnce A.condition old new }
 {}
 

@@ -2,7 +2,7 @@
 ghost use Rattle.std.specs.Prelude.{◌≡◌, false, MatchOption};
 ghost use Rattle.dep_hub.specs.Claims as spec;
 ghost use Rattle.dep_hub.specs.Claims.{is_awaited_by, sends_of};
-ghost use Rattle.dep_hub.specs.Preparing.{HaveAtMost, IsLeastPrepared, steps_of as spec_steps_of};
+ghost use Rattle.dep_hub.specs.Preparing.{HasTurn, HaveAtMost, IsGreatestBelow, prepared_below as spec_prepared_below};
 
 use crate::claim::{Claim, Files};
 use crate::connections::Connection;
@@ -62,30 +62,42 @@ fn is_waiting(behind: Behind) -> bool
     }
 }
 
-/// The place of the one of them for whose next request the fewest steps were made, of those that are prepared;
-/// of equals the first.
-pub(crate) fn least_prepared(connections: &[Connection]) -> Option<usize>
-    ensures { MatchOption result (HaveAtMost connections.now 0)
-        (IsLeastPrepared connections.now) }
+/// The place of the one whose turn it is, of those whose next request is prepared, behind the turn of a number: of those
+/// below that the one with the greatest number, or where there is none the one with the greatest of all. Who comes later has
+/// a greater number, and so comes before nobody who waits. All numbers are below `next`.
+pub(crate) fn next_prepared(connections: &[Connection], last: u64, next: u64) -> Option<usize>
+    ensures { MatchOption result (HaveAtMost connections.now next 0)
+        (HasTurn connections.now last next) }
 {
-    let mut least = None;
-    let mut most = 0;
-    for (i, connection) in connections.iter().enumerate() {
-        let left = steps_of(connection.behind);
-        if left > most {
-            least = Some(i);
-            most = left;
-        }
+    match greatest_prepared(connections, last) {
+        Some(i) => Some(i),
+        None => greatest_prepared(connections, next),
     }
-    least
 }
 
-// How many steps end the preparing of a next request at most.
-fn steps_of(behind: Behind) -> u64
-    ensures { result ≡ spec_steps_of behind }
+// The place of the one with the greatest number below this one, of those whose next request is prepared.
+fn greatest_prepared(connections: &[Connection], below: u64) -> Option<usize>
+    ensures { MatchOption result (HaveAtMost connections.now below 0)
+        (IsGreatestBelow connections.now below) }
 {
-    match behind {
-        Behind::Prepares(left) => u64::from(left) + 1,
+    let mut greatest = None;
+    let mut most = 0;
+    for (i, connection) in connections.iter().enumerate() {
+        let number = prepared_below(below, connection);
+        if number > most {
+            greatest = Some(i);
+            most = number;
+        }
+    }
+    greatest
+}
+
+// The number behind that of a connection, where it is below this one and its next request is prepared.
+fn prepared_below(below: u64, connection: &Connection) -> u64
+    ensures { result ≡ spec_prepared_below below connection.now }
+{
+    match connection.behind {
+        Behind::Prepares(_) if connection.number < below => connection.number + 1,
         _ => 0,
     }
 }

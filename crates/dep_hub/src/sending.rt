@@ -1,5 +1,5 @@
 //! Replies that are sent over an outlet.
-ghost use Rattle.std.specs.Prelude.{◌≡◌, None};
+ghost use Rattle.std.specs.Prelude.{◌≡◌, None, Some, IfSome};
 ghost use Rattle.dep_types.specs.Writing.{HasRisen};
 ghost use Rattle.dep_hub.specs.Sending.{SendsOver, SendsReady, SendsReply, outside_of, reply_to};
 ghost use Rattle.dep_hub.specs.Owing.{Owing};
@@ -84,8 +84,9 @@ pub(crate) fn send_performed<A: Archive, O: Outlet, L: AccessLog, C: Contents>(
     contents: &mut C,
 ) -> Answered
     requires { C.rest contents.old ≡ None }
-    ensures { Owing O.Outlet out.old out.new (A.condition store.new) (C.rest contents.new) (λ new.
+    ensures owing { Owing O.Outlet out.old out.new (A.condition store.new) (C.rest contents.new) (λ new.
         SendsReady (outside_of O.Outlet out.old (A.condition store.old)) new performed.now result) }
+    ensures begins { IfSome (C.rest contents.new) (λ r. performed.now.stored ≡ Some r.file) }
 {
     log.reply(performed.status.number(), performed.refusal);
     match send(out, performed.front.as_slice()) {

@@ -1,8 +1,8 @@
 //! One arrival: the items that are complete now are answered in order.
-ghost use Rattle.std.specs.Prelude.{◌≡◌, ◌≢◌, None};
+ghost use Rattle.std.specs.Prelude.{◌≡◌, ◌≢◌, None, IfSome};
 ghost use Rattle.dep_message.specs.Places.{shut_reading};
 ghost use Rattle.dep_hub.specs.Sending.{outside_of};
-ghost use Rattle.dep_hub.specs.Serving.{ServesOver, KeepsIntake, arrival_with, answer_after};
+ghost use Rattle.dep_hub.specs.Serving.{BeginsFirst, ServesOver, KeepsIntake, arrival_with, answer_after};
 ghost use Rattle.dep_hub.specs.Owing.{Owing};
 ghost use Rattle.dep_hub.specs.Nexts.{TakesNext, ReportsLackOfMemory, ended_as, next_behind, reading_behind};
 
@@ -85,9 +85,12 @@ pub(crate) fn take_next<A: Archive, O: Outlet, L: AccessLog, C: Contents>(
     contents: &mut C,
 ) -> Next
     requires { C.rest contents.old ≡ None }
-    ensures { Owing O.Outlet out.old out.new (A.condition store.new) (C.rest contents.new) (λ new.
+    ensures owing { Owing O.Outlet out.old out.new (A.condition store.new) (C.rest contents.new) (λ new.
         TakesNext context.now.site.now intake.old intake.new context.now.moment
         (outside_of O.Outlet out.old (A.condition store.old)) new result) }
+    // What is sent later is what the item asks for.
+    ensures begins { IfSome (C.rest contents.new) (BeginsFirst context.now.site.now
+        intake.old context.now.moment (A.condition store.old) (A.condition store.new)) }
 {
     match intake.next() {
         Err(AllocError) => last(give_up(intake, out, log)),

@@ -1,5 +1,5 @@
 //! One step of the machine, and what is sent for it.
-ghost use Rattle.std.specs.Prelude.{◌≡◌, ℕ, None, IfOk};
+ghost use Rattle.std.specs.Prelude.{◌≡◌, ℕ, None, IfOk, IfSome};
 ghost use Rattle.std.specs.Option.{option_copied};
 ghost use Rattle.dep_types.specs.State.{State};
 ghost use Rattle.dep_types.specs.declared.config.Config.{Config as Settings};
@@ -12,6 +12,7 @@ ghost use Rattle.dep_hub.specs.Machine.{operation_of, message_step};
 ghost use Rattle.dep_hub.specs.Sending.{outside_of};
 ghost use Rattle.dep_hub.specs.Serving.{Answers, EndsAsAsked};
 ghost use Rattle.dep_hub.specs.Owing.{Owing};
+ghost use Rattle.dep_hub.specs.Serving.{BeginsSource};
 
 use crate::access_log::AccessLog;
 use crate::archive::Archive;
@@ -54,9 +55,11 @@ pub(crate) fn answer_message<A: Archive, O: Outlet, L: AccessLog, C: Contents>(
     contents: &mut C,
 ) -> Answered
     requires { (C.rest contents.old ≡ None) × EndsAsAsked item }
-    ensures { Owing O.Outlet out.old out.new (A.condition store.new) (C.rest contents.new) (λ new.
+    ensures owing { Owing O.Outlet out.old out.new (A.condition store.new) (C.rest contents.new) (λ new.
         Answers context.now.site.now (outside_of O.Outlet out.old (A.condition store.old)) new
         (Request item.message) context.now.moment result) }
+    ensures begins { IfSome (C.rest contents.new) (BeginsSource context.now.site.now
+        (Request item.message) context.now.moment (A.condition store.old) (A.condition store.new)) }
 {
     let message = &item.message;
     let length = message.content.as_slice().len() as u64;
@@ -97,9 +100,12 @@ pub(crate) fn answer_fault<A: Archive, O: Outlet, L: AccessLog, C: Contents>(
     contents: &mut C,
 ) -> Answered
     requires { C.rest contents.old ≡ None }
-    ensures { Owing O.Outlet out.old out.new (A.condition store.new) (C.rest contents.new) (λ new.
+    ensures owing { Owing O.Outlet out.old out.new (A.condition store.new) (C.rest contents.new) (λ new.
         Answers context.now.site.now (outside_of O.Outlet out.old (A.condition store.old)) new
         (Fault fault.refusal fault.is_head_only) context.now.moment result) }
+    ensures begins { IfSome (C.rest contents.new) (BeginsSource context.now.site.now
+        (Fault fault.refusal fault.is_head_only) context.now.moment
+        (A.condition store.old) (A.condition store.new)) }
 {
     match store.tick(context.site.service().config(), context.moment) {
         Ok(clock) => match refuse(context.site.alloc(), clock, fault, None, true) {

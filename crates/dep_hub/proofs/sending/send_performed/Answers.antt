@@ -1,13 +1,15 @@
-use Rattle.std.proofs.Common.{None, refl}
+use Rattle.std.proofs.Common.{None, Some, refl, sym, ap, ◌∙◌}
+use Rattle.dep_answers.specs.declared.performed.StoredFile.{StoredFile}
 use Rattle.dep_hub.specs.Sending.{outside}
 use Rattle.dep_hub.specs.Owing.{with_more}
 use Rattle.dep_hub.proofs.Leaving.{leaves_once}
 use Rattle.dep_hub.proofs.OwingLemmas.{none_later, takes_both}
 use Rattle.dep_hub.proofs.SendingLemmas.{ready_all, ready_cut, ready_front, front_cut}
+use Rattle.dep_hub.proofs.SourceLemmas.{begins_as, unbegun}
 use Rattle.dep_hub.proofs.sending.send_performed.Goals as goal
 
-pub returns-in-Ok : goal.returns-in-Ok
-returns-in-Ok g c =
+pub returns-in-Ok-clause-owing : goal.returns-in-Ok-clause-owing
+returns-in-Ok-clause-owing g c =
     let old = g.A.Archive.condition c.args.store.now in
     let new = g.A.Archive.condition c.deliver.new.store in
     let x = c.in-Ok.ensures.sends in (
@@ -21,8 +23,8 @@ returns-in-Ok g c =
           x.2 (λ disk s at. (c.in-Ok.ensures.does.ok disk s at tt).1) c.in-Ok.ensures.kept,
     )
 
-pub returns-in-Err : goal.returns-in-Err
-returns-in-Err g c =
+pub returns-in-Err-clause-owing : goal.returns-in-Err-clause-owing
+returns-in-Err-clause-owing g c =
     let old = g.A.Archive.condition c.args.store.now in
     let new = g.A.Archive.condition c.deliver.new.store in
     let x = c.in-Err.ensures.sends in (
@@ -36,8 +38,8 @@ returns-in-Err g c =
           _ x.2 c.in-Err.ensures.does.err (λ disk s at. leaves_once new s (c.in-Err.ensures.does.stop disk s at tt)),
     )
 
-pub returns-in-None : goal.returns-in-None
-returns-in-None g c = (
+pub returns-in-None-clause-owing : goal.returns-in-None-clause-owing
+returns-in-None-clause-owing g c = (
   None,
   none_later (g.A.Archive.condition c.args.store.now) _ c.requires,
   (c.in-Sent.ensures.sends.0, c.in-Sent.ensures.sends.1),
@@ -45,8 +47,8 @@ returns-in-None g c = (
       (g.A.Archive.condition c.args.store.now) c.args.performed.now c.as_slice.result.now c.as_slice.ensures.value c.in-None.is c.in-Sent.ensures.sends (c.in-Sent.ensures.kept refl),
 )
 
-pub returns-in_default : goal.returns-in_default
-returns-in_default g c = (
+pub returns-in_default-clause-owing : goal.returns-in_default-clause-owing
+returns-in_default-clause-owing g c = (
   None,
   none_later (g.A.Archive.condition c.args.store.now) _ c.requires,
   (c.send.ensures.sends.0, c.send.ensures.sends.1),
@@ -54,3 +56,15 @@ returns-in_default g c = (
       (g.A.Archive.condition c.args.store.now) c.args.performed.now c.as_slice.result.now c.send.result c.as_slice.ensures.value
       (g.met.A.Archive.settled c.args.store.now) c.in_default.not-Sent c.send.ensures.sends c.send.ensures.cause,
 )
+
+pub returns-in-Ok-clause-begins : goal.returns-in-Ok-clause-begins
+returns-in-Ok-clause-begins g c = begins_as _ _ _ (λ r is. c.in-Some.is ∙ ap (λ (it : StoredFile). Some it) (sym is)) c.deliver.ensures.begins
+
+pub returns-in-Err-clause-begins : goal.returns-in-Err-clause-begins
+returns-in-Err-clause-begins g c = begins_as _ _ _ (λ r is. c.in-Some.is ∙ ap (λ (it : StoredFile). Some it) (sym is)) c.deliver.ensures.begins
+
+pub returns-in-None-clause-begins : goal.returns-in-None-clause-begins
+returns-in-None-clause-begins g c = unbegun _ _ c.requires
+
+pub returns-in_default-clause-begins : goal.returns-in_default-clause-begins
+returns-in_default-clause-begins g c = unbegun _ _ c.requires

@@ -7,10 +7,11 @@ use Rattle.dep_hub.specs.Owing.{with_more}
 use Rattle.dep_hub.proofs.OwingLemmas.{none_later, takes_none}
 use Rattle.dep_hub.proofs.ServingLemmas.{continue_goes_on, request_shuts, request_goes_on, fault_shuts}
 use Rattle.dep_hub.proofs.NextLemmas.{waiting_more, closed_more, never_more, ends_dead, rests_same, runs_out, ends_out, dead_ends, takes_next}
+use Rattle.dep_hub.proofs.SourceLemmas.{begins_as, unbegun}
 use Rattle.dep_hub.proofs.serving.take_next.Goals as goal
 
-pub returns-in-Err : goal.returns-in-Err
-returns-in-Err g c =
+pub returns-in-Err-clause-owing : goal.returns-in-Err-clause-owing
+returns-in-Err-clause-owing g c =
     let e = c.in-Err.ensures in
     let store = g.A.Archive.condition c.args.store.now in
     let shut = c.give_up.ensures.shut in (
@@ -32,8 +33,8 @@ returns-in-Err g c =
       },
     )
 
-pub returns-in-Ok-NeedMore : goal.returns-in-Ok-NeedMore
-returns-in-Ok-NeedMore g c =
+pub returns-in-Ok-NeedMore-clause-owing : goal.returns-in-Ok-NeedMore-clause-owing
+returns-in-Ok-NeedMore-clause-owing g c =
     let h = rw c.in-Ok-NeedMore.field-0-is at c.in-Ok-NeedMore.ensures in (
       None,
       none_later (g.A.Archive.condition c.args.store.now) _ c.requires,
@@ -53,8 +54,8 @@ returns-in-Ok-NeedMore g c =
       },
     )
 
-pub returns-in-Ok-Dead : goal.returns-in-Ok-Dead
-returns-in-Ok-Dead g c =
+pub returns-in-Ok-Dead-clause-owing : goal.returns-in-Ok-Dead-clause-owing
+returns-in-Ok-Dead-clause-owing g c =
     let h = rw c.in-Ok-Dead.field-0-is at c.in-Ok-Dead.ensures in (
       None,
       none_later (g.A.Archive.condition c.args.store.now) _ c.requires,
@@ -70,10 +71,10 @@ returns-in-Ok-Dead g c =
       },
     )
 
-pub returns-in-Ok-Refused : goal.returns-in-Ok-Refused
-returns-in-Ok-Refused g c =
+pub returns-in-Ok-Refused-clause-owing : goal.returns-in-Ok-Refused-clause-owing
+returns-in-Ok-Refused-clause-owing g c =
     let h = rw c.in-Ok-Refused.field-0-is at c.in-Ok-Refused.ensures in
-    let y = c.answer_fault-answer.ensures in (
+    let y = c.answer_fault-answer.ensures.owing in (
       y.0,
       y.1,
       y.2,
@@ -85,8 +86,8 @@ returns-in-Ok-Refused g c =
           c.next_after.new.intake c.next_after.ensures.read c.next_after.result c.next_after.ensures.next,
     )
 
-pub returns-in-Ok-Continue100 : goal.returns-in-Ok-Continue100
-returns-in-Ok-Continue100 g c =
+pub returns-in-Ok-Continue100-clause-owing : goal.returns-in-Ok-Continue100-clause-owing
+returns-in-Ok-Continue100-clause-owing g c =
     let h = rw c.in-Ok-Continue100.field-0-is at c.in-Ok-Continue100.ensures in
     let store = g.A.Archive.condition c.args.store.now in
     let sent = c.answer_continue-answer.ensures c.args.context.now.site.now c.args.context.now.moment in (
@@ -104,10 +105,10 @@ returns-in-Ok-Continue100 g c =
 pub answer_message-answer-requires : goal.answer_message-answer-requires
 answer_message-answer-requires g c = (c.requires, (rw c.in-Ok-Message.field-0-is at c.in-Ok-Message.ensures).1)
 
-pub returns-in-Ok-Message : goal.returns-in-Ok-Message
-returns-in-Ok-Message g c =
+pub returns-in-Ok-Message-clause-owing : goal.returns-in-Ok-Message-clause-owing
+returns-in-Ok-Message-clause-owing g c =
     let h = rw c.in-Ok-Message.field-0-is at c.in-Ok-Message.ensures in
-    let y = c.answer_message-answer.ensures in (
+    let y = c.answer_message-answer.ensures.owing in (
       y.0,
       y.1,
       y.2,
@@ -119,3 +120,25 @@ returns-in-Ok-Message g c =
           (λ e. request_goes_on _ _ _ c.in-Ok-Message.message (sym h.1 ∙ e) h.0.first) y.3
           c.next_after-in-Ok-Message.new.intake c.next_after-in-Ok-Message.ensures.read c.next_after-in-Ok-Message.result c.next_after-in-Ok-Message.ensures.next,
     )
+
+pub returns-in-Err-clause-begins : goal.returns-in-Err-clause-begins
+returns-in-Err-clause-begins g c = unbegun _ _ c.requires
+
+pub returns-in-Ok-NeedMore-clause-begins : goal.returns-in-Ok-NeedMore-clause-begins
+returns-in-Ok-NeedMore-clause-begins g c = unbegun _ _ c.requires
+
+pub returns-in-Ok-Dead-clause-begins : goal.returns-in-Ok-Dead-clause-begins
+returns-in-Ok-Dead-clause-begins g c = unbegun _ _ c.requires
+
+pub returns-in-Ok-Continue100-clause-begins : goal.returns-in-Ok-Continue100-clause-begins
+returns-in-Ok-Continue100-clause-begins g c = unbegun _ _ c.requires
+
+pub returns-in-Ok-Refused-clause-begins : goal.returns-in-Ok-Refused-clause-begins
+returns-in-Ok-Refused-clause-begins g c =
+    let h = rw c.in-Ok-Refused.field-0-is at c.in-Ok-Refused.ensures in
+    begins_as _ _ _ (λ r source. (Fault c.in-Ok-Refused.refusal c.in-Ok-Refused.is_head_only, c.next.new.self.place, h.first, source)) c.answer_fault-answer.ensures.begins
+
+pub returns-in-Ok-Message-clause-begins : goal.returns-in-Ok-Message-clause-begins
+returns-in-Ok-Message-clause-begins g c =
+    let h = rw c.in-Ok-Message.field-0-is at c.in-Ok-Message.ensures in
+    begins_as _ _ _ (λ r source. (Request c.in-Ok-Message.message, c.next.new.self.place, h.0.first, source)) c.answer_message-answer.ensures.begins

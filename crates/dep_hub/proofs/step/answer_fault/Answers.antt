@@ -6,13 +6,15 @@ use Rattle.dep_hub.specs.Sending.{outside}
 use Rattle.dep_hub.proofs.Leaving.{stays_as, leaves_wider}
 use Rattle.dep_hub.proofs.OwingLemmas.{none_later}
 use Rattle.dep_hub.proofs.ServingLemmas.{answers_fixed, answers_from, made_from}
+use Rattle.dep_hub.specs.Serving.{BeginsSource}
+use Rattle.dep_hub.proofs.SourceLemmas.{begins_as, ready_source, unbegun}
 use Rattle.dep_hub.proofs.step.answer_fault.Goals as goal
 
-pub returns-in-Ok-refuse : goal.returns-in-Ok-refuse
+pub returns-in-Ok-refuse-clause-owing : goal.returns-in-Ok-refuse-clause-owing
 unfolding step
-returns-in-Ok-refuse g c =
+returns-in-Ok-refuse-clause-owing g c =
     let config = c.args.context.now.site.now in
-    let y = c.send_performed-answered.ensures in
+    let y = c.send_performed-answered.ensures.owing in
     let x = y.3 in (
       y.0,
       y.1,
@@ -35,9 +37,9 @@ returns-in-Ok-refuse g c =
       },
     )
 
-pub returns-in-Err-refuse : goal.returns-in-Err-refuse
+pub returns-in-Err-refuse-clause-owing : goal.returns-in-Err-refuse-clause-owing
 unfolding step
-returns-in-Err-refuse g c =
+returns-in-Err-refuse-clause-owing g c =
     let config = c.args.context.now.site.now in
     let new = g.A.Archive.condition c.tick.new.self in (
       None,
@@ -57,9 +59,9 @@ returns-in-Err-refuse g c =
           c.send_fault.result c.send_fault.ensures,
     )
 
-pub returns-in-Err : goal.returns-in-Err
+pub returns-in-Err-clause-owing : goal.returns-in-Err-clause-owing
 unfolding step
-returns-in-Err g c =
+returns-in-Err-clause-owing g c =
     let new = g.A.Archive.condition c.tick.new.self in (
       None,
       none_later (g.A.Archive.condition c.tick.new.self) _ c.requires,
@@ -75,3 +77,21 @@ returns-in-Err g c =
           (λ sent answer h. h) c.tick.ensures.shut.left
           c.send_fault-in-Err.result c.send_fault-in-Err.ensures,
     )
+
+pub returns-in-Ok-refuse-clause-begins : goal.returns-in-Ok-refuse-clause-begins
+unfolding step
+returns-in-Ok-refuse-clause-begins g c =
+    let config = c.args.context.now.site.now in
+    let moment = c.args.context.now.moment in
+    let x = c.send_performed-answered.ensures.owing.3 in
+    begins_as _ (BeginsSource config (Fault c.args.fault.refusal c.args.fault.is_head_only) moment (g.A.Archive.condition c.args.store.now) (g.A.Archive.condition c.send_performed-answered.new.store)) _
+    (λ r is disk s represents.
+    let t = (rw (c.config.ensures ∙ c.service.ensures) at c.in-Ok.ensures.does).ok (x.passes.honest disk) s represents tt in
+    ready_source (step config s (Fault c.args.fault.refusal c.args.fault.is_head_only) moment) _ r.file (c.in-Ok-refuse.ensures (tick config s moment) t.0) is)
+    c.send_performed-answered.ensures.begins
+
+pub returns-in-Err-refuse-clause-begins : goal.returns-in-Err-refuse-clause-begins
+returns-in-Err-refuse-clause-begins g c = unbegun _ _ c.requires
+
+pub returns-in-Err-clause-begins : goal.returns-in-Err-clause-begins
+returns-in-Err-clause-begins g c = unbegun _ _ c.requires

@@ -7,14 +7,16 @@ use Rattle.dep_hub.specs.Sending.{outside}
 use Rattle.dep_hub.proofs.Leaving.{leaves_wider}
 use Rattle.dep_hub.proofs.OwingLemmas.{none_later}
 use Rattle.dep_hub.proofs.ServingLemmas.{answers_fixed, answers_from, made_from}
+use Rattle.dep_hub.specs.Serving.{BeginsSource}
+use Rattle.dep_hub.proofs.SourceLemmas.{begins_as, ready_source, unbegun}
 use Rattle.dep_hub.proofs.step.answer_message.Goals as goal
 
-pub returns-in-Ok-answer_routed : goal.returns-in-Ok-answer_routed
+pub returns-in-Ok-answer_routed-clause-owing : goal.returns-in-Ok-answer_routed-clause-owing
 unfolding step
-returns-in-Ok-answer_routed g c =
+returns-in-Ok-answer_routed-clause-owing g c =
     let config = c.args.context.now.site.now in
     let m : Message = c.args.item.message in
-    let y = c.send_performed-answered.ensures in
+    let y = c.send_performed-answered.ensures.owing in
     let x = y.3 in (
       y.0,
       y.1,
@@ -36,9 +38,9 @@ returns-in-Ok-answer_routed g c =
       },
     )
 
-pub returns-in-Err-answer_routed : goal.returns-in-Err-answer_routed
+pub returns-in-Err-answer_routed-clause-owing : goal.returns-in-Err-answer_routed-clause-owing
 unfolding step
-returns-in-Err-answer_routed g c =
+returns-in-Err-answer_routed-clause-owing g c =
     let config = c.args.context.now.site.now in
     let m : Message = c.args.item.message in
     let new = g.A.Archive.condition c.answer_routed.new.store in (
@@ -58,9 +60,9 @@ returns-in-Err-answer_routed g c =
           c.send_fault.result c.send_fault.ensures,
     )
 
-pub returns-in-Err : goal.returns-in-Err
+pub returns-in-Err-clause-owing : goal.returns-in-Err-clause-owing
 unfolding step
-returns-in-Err g c =
+returns-in-Err-clause-owing g c =
     let new = g.A.Archive.condition c.tick.new.self in (
       None,
       none_later (g.A.Archive.condition c.tick.new.self) _ c.requires.0,
@@ -76,3 +78,24 @@ returns-in-Err g c =
           (λ sent answer h. h) c.tick.ensures.shut.left
           c.send_fault-in-Err.result c.send_fault-in-Err.ensures,
     )
+
+pub returns-in-Ok-answer_routed-clause-begins : goal.returns-in-Ok-answer_routed-clause-begins
+unfolding step
+returns-in-Ok-answer_routed-clause-begins g c =
+    let config = c.args.context.now.site.now in
+    let moment = c.args.context.now.moment in
+    let m : Message = c.args.item.message in
+    let x = c.send_performed-answered.ensures.owing.3 in
+    begins_as _ (BeginsSource config (Request m) moment (g.A.Archive.condition c.args.store.now) (g.A.Archive.condition c.send_performed-answered.new.store)) _
+    (λ r is disk s represents.
+    let between = x.passes.honest disk in
+    let t = (rw (c.config.ensures ∙ c.service.ensures) at c.in-Ok.ensures.does).ok (c.answer_routed.ensures.honest between) s represents tt in
+    let p = c.in-Ok-answer_routed.ensures.ok between (tick config s moment) t.1 tt in
+    ready_source (step config s (Request m) moment) _ r.file (p.0 t.0) is)
+    c.send_performed-answered.ensures.begins
+
+pub returns-in-Err-answer_routed-clause-begins : goal.returns-in-Err-answer_routed-clause-begins
+returns-in-Err-answer_routed-clause-begins g c = unbegun _ _ c.requires.0
+
+pub returns-in-Err-clause-begins : goal.returns-in-Err-clause-begins
+returns-in-Err-clause-begins g c = unbegun _ _ c.requires.0

@@ -1,9 +1,9 @@
-use Rattle.std.proofs.Common.{Bool, List, if◌then◌else◌, refl, sym, ap, subst, ◌∙◌}
+use Rattle.std.proofs.Common.{◌≡◌, Bool, false, List, set, if◌then◌else◌, refl, sym, ap, subst, ◌∙◌}
 use Rattle.std.proofs.KnownBytes.{Keeps-refl}
 use Rattle.std.proofs.lemmas.Bool.{eq-eqb}
 use Rattle.dep_message.specs.Places.{Reading}
 use Rattle.dep_hub.specs.Owing.{IsOwed, with_more, bytes_later}
-use Rattle.dep_hub.specs.Claims.{is_any_pending, is_any_waiting, is_pending, is_waiting}
+use Rattle.dep_hub.specs.Claims.{is_any_pending, is_any_waiting, is_awaited_by, is_pending, is_waiting}
 use Rattle.dep_hub.specs.RepresentsOwing.{IsFree, KeptBack, behind_at, is_looked_at, is_unsent}
 use Rattle.dep_hub.specs.Preparing.{is_preparing}
 use Rattle.dep_hub.specs.declared.connections.Connection.{Connection}
@@ -15,6 +15,7 @@ use Rattle.dep_hub.proofs.HoldingLemmas.{comes_next}
 use Rattle.dep_hub.proofs.NextLemmas.{next_there, next_passes}
 use Rattle.dep_hub.proofs.BehindLemmas.{some_such, behind_some, behinds_are, intakes_stay, others_are, owed_at, owed_later, some_reading}
 use Rattle.dep_hub.proofs.PendingLemmas.{any_unset, not_broken, not_looked, not_waiting}
+use Rattle.dep_hub.proofs.SourceLemmas.{begins_unawaited}
 use Rattle.dep_hub.proofs.hub.Hub.answer_at.Goals as goal
 
 pub still_pending-self-requires : goal.still_pending-self-requires
@@ -41,7 +42,7 @@ invariant_of-self g c = record {
 
 pub returns-clause-goes : goal.returns-clause-goes
 returns-clause-goes g c =
-    let y = c.take_next-next.ensures in
+    let y = c.take_next-next.ensures.owing in
     let old = outside (g.O.Outlet.taken c.args.out.now) (g.O.Outlet.failures c.args.out.now) (g.A.Archive.condition c.args.self.now.store) in
     let new = outside (with_more (g.O.Outlet.taken c.take_next-next.new.out) y.0) (g.O.Outlet.failures c.take_next-next.new.out) (g.A.Archive.condition c.take_next-next.new.store) in
     let passes = (next_passes c.args.self.now.config c.index_mut-kept.result.now.intake c.args.moment old new c.take_next-next.new.intake.place c.take_next-next.result y.3.answers).1 in
@@ -50,7 +51,7 @@ returns-clause-goes g c =
 pub returns-clause-there : goal.returns-clause-there
 returns-clause-there g c =
     let index = c.requires.index in
-    let y = c.take_next-next.ensures in
+    let y = c.take_next-next.ensures.owing in
     let old = outside (g.O.Outlet.taken c.args.out.now) (g.O.Outlet.failures c.args.out.now) (g.A.Archive.condition c.args.self.now.store) in
     let new = outside (with_more (g.O.Outlet.taken c.take_next-next.new.out) y.0) (g.O.Outlet.failures c.take_next-next.new.out) (g.A.Archive.condition c.take_next-next.new.store) in (
       (next_there c.args.self.now.config c.index_mut-kept.result.now.intake c.args.moment old new c.take_next-next.new.intake.place c.take_next-next.result y.3.answers),
@@ -67,7 +68,7 @@ returns-clause-replies g c =
     let found = index_some n c.args.i items kept index c.index_mut-kept.ensures.value in
     let free = c.requires.free kept.intake found.1 in
     let store = g.A.Archive.condition c.take_next-next.new.store in
-    let y = c.take_next-next.ensures in
+    let y = c.take_next-next.ensures.owing in
     let behinds = behinds_are n c.args.i items kept b index c.index_mut-kept.ensures.value c.take_next-next.new.intake _ refl in
     let here = behinds n ∙ (ap (λ (t : Bool). if t then b else behind_at items n) (eq-eqb n n refl) ∙ c.behind_of-behind.ensures) in
     record {
@@ -86,6 +87,11 @@ returns-clause-replies g c =
       prepared = free.0.1;
       let_go = ap is_looked_at here ∙ not_looked c.take_next-next.new.contents.rest;
       others = others_are n items _ b behinds;
+      unawaited = λ honest w held at.
+          subst (λ (x : Behind). is_awaited_by (set items c.args.i (record { number = kept.number; intake = c.take_next-next.new.intake; behind = b })) x ≡ false) (sym here)
+          (begins_unawaited c.args.self.now.config items kept.intake c.args.moment (g.A.Archive.condition c.args.self.now.store) store w.state honest at.state free.1.0
+          c.args.i kept (record { number = kept.number; intake = c.take_next-next.new.intake; behind = b }) c.index_mut-kept.ensures.value
+          c.take_next-next.new.contents.rest c.behind_of-behind.ensures c.take_next-next.ensures.begins);
     }
 
 pub returns-clause-unbroken : goal.returns-clause-unbroken

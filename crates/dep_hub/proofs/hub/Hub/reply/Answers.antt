@@ -1,5 +1,6 @@
 use Rattle.std.proofs.Common.{None, [], refl, sym, ap, subst, ◌∙◌}
 use Rattle.std.proofs.KnownBytes.{Appends-nil, Keeps-refl}
+use Rattle.dep_hub.specs.Claims.{is_awaited_by}
 use Rattle.dep_hub.specs.Numbers.{index_of}
 use Rattle.dep_hub.specs.Owing.{IsOwed}
 use Rattle.dep_hub.specs.Preparing.{is_preparing}
@@ -32,6 +33,7 @@ returns-in_default-clause-replies g c =
       prepared = ap is_preparing empty;
       let_go = ap is_looked_at empty;
       others = λ m other. refl;
+      unawaited = λ honest w held at. ap (is_awaited_by c.args.self.now.connections.items) empty;
     }
 
 pub returns-in_default-clause-there : goal.returns-in_default-clause-there

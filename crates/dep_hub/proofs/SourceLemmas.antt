@@ -1,0 +1,103 @@
+-- A content that begins is that of the file that its request names, which no waiting request takes.
+use Rattle.std.proofs.Common.{◌≡◌, ℕ, Bool, true, false, List, get_or, set, length, Option, Some, None, refl, sym, ap, subst, ◌∙◌}
+use Rattle.std.specs.Prelude.{IfSome}
+use Rattle.dep_types.specs.State.{State, tick}
+use Rattle.dep_types.specs.Sound.{IsSound}
+use Rattle.dep_types.specs.Conditions.{Condition, Represents, HasCleanDisk}
+use Rattle.dep_types.specs.declared.config.Config.{Config}
+use Rattle.dep_types.specs.declared.refusal.Refusal.{Refusal}
+use Rattle.dep_types.specs.declared.refusal.Refusal.TheVariants as why
+use Rattle.dep_types.proofs.TickSound.{keeps_sound}
+use Rattle.dep_answers.specs.Performing.{IsReady, file_id}
+use Rattle.dep_answers.specs.Steps.{Stepped, refused_step}
+use Rattle.dep_answers.specs.declared.performed.FileId.{FileId}
+use Rattle.dep_answers.specs.declared.performed.Performed.{Performed}
+use Rattle.dep_answers.specs.declared.performed.StoredFile.{StoredFile}
+use Rattle.dep_answers.proofs.RefusedSteps.{no_source}
+use Rattle.dep_answers.proofs.Sources.{named_source}
+use Rattle.dep_message.specs.Heads.{closes, is_head_only}
+use Rattle.dep_message.specs.Places.{Place, Reading}
+use Rattle.dep_message.specs.Stream.{Item, Fault, Continue, Request, FirstAt}
+use Rattle.dep_message.specs.declared.message.Message.{Message}
+use Rattle.dep_router.specs.Targets.{target}
+use Rattle.dep_router.specs.declared.routed.Routed.{Routed}
+use Rattle.dep_router.specs.declared.routed.Routed.TheVariants.{To, NotFound, NotAllowed}
+use Rattle.dep_hub.specs.Claims.{any_waits_to_take, claim_by, claim_of, claim_to, has_to_wait, is_awaited_by, reads_of, waits_to_take}
+use Rattle.dep_hub.specs.Machine.{operation_of, routed_step, step}
+use Rattle.dep_hub.specs.Owing.{later_than}
+use Rattle.dep_hub.specs.RepresentsOwing.{IsFree}
+use Rattle.dep_hub.specs.Serving.{BeginsFirst}
+use Rattle.dep_hub.specs.declared.claim.Claim.{Claim}
+use Rattle.dep_hub.specs.declared.claim.Claim.TheVariants.{Reads}
+use Rattle.dep_hub.specs.declared.connections.Connection.{Connection}
+use Rattle.dep_hub.specs.declared.rest.Rest.{Rest}
+use Rattle.dep_hub.proofs.PendingLemmas.{any_unset}
+
+-- ---- what is ready
+
+-- nothing begins
+pub unbegun : (P : Rest → Type 0) (o : Option Rest) → o ≡ None → IfSome o P
+unbegun P o e = subst (λ (x : Option Rest). IfSome x P) (sym e) tt
+
+-- what begins is this, of which that is known
+pub begins_as : (P Q : Rest → Type 0) (o : Option Rest) → ((r : Rest) → P r → Q r) → IfSome o P → IfSome o Q
+begins_as P Q None f h = tt
+begins_as P Q (Some r) f h = f r h
+
+-- it is the content of the file that the step names
+pub ready_source : (stepped : Stepped) (p : Performed) (it : StoredFile) → IsReady stepped p → p.stored ≡ Some it → stepped.source ≡ Some (file_id it)
+ready_source stepped p it ready e = subst (λ (o : Option StoredFile). IfSome o (λ x. stepped.source ≡ Some (file_id x))) e ready.source
+
+-- ---- the request that names it
+
+none_some : (id : FileId) → None ≡ Some id → ⊥
+none_some id e = cc
+
+refused_none : (s : State) (r : Refusal) (allow : Option (List ℕ)) (is_head_only closes : Bool) (id : FileId)
+    → (refused_step s r allow is_head_only closes).source ≡ Some id → ⊥
+refused_none s r allow is_head_only closes id e = none_some id (sym (no_source s.clock r allow is_head_only) ∙ e)
+
+-- it claims the file
+routed_claims : (config : Config) (s : State) (m : Message) (r : Routed) (id : FileId) → IsSound s → (routed_step config s m r).source ≡ Some id
+    → claim_by r ≡ Reads id.object id.file
+routed_claims config s m NotFound id sound e = absurd (refused_none s why.NotFound None (is_head_only m.head) (closes m.head) id e)
+routed_claims config s m (NotAllowed methods) id sound e = absurd (refused_none s why.MethodNotAllowed (Some methods) (is_head_only m.head) (closes m.head) id e)
+routed_claims config s m (To t) id sound e =
+    let named = named_source config s (operation_of m t) id sound e in
+    ap (claim_to t.resource) named.0 ∙ ap reads_of named.1
+
+-- what stands first, where it doesn't have to wait, names a file that no waiting request takes
+item_unawaited : (config : Config) (cs : List Connection) (reading : Reading) (moment : ℕ) (s : State) (item : Item) (next : Place) (it : StoredFile)
+    → IsSound s → IsFree cs reading → FirstAt reading.limit reading.place item next → (step config s item moment).source ≡ Some (file_id it)
+    → any_waits_to_take cs it.object it.file ≡ false
+unfolding step
+item_unawaited config cs reading moment s (Fault r head_only) next it sound free first e =
+    absurd (refused_none (tick config s moment) r None head_only true (file_id it) e)
+item_unawaited config cs reading moment s Continue next it sound free first e = absurd (none_some (file_id it) e)
+item_unawaited config cs reading moment s (Request m) next it sound free first e =
+    let claims : claim_of m.head ≡ Reads it.object it.file =
+        routed_claims config (tick config s moment) m (target m.head.method m.head.path) (file_id it) (keeps_sound config s moment sound) e in
+    subst (λ (claim : Claim). has_to_wait cs claim ≡ false) claims (free m next first)
+
+-- ---- a connection that was answered
+
+unawaited_later : (cs : List Connection) (rest : Option Rest) → IfSome rest (λ r. any_waits_to_take cs r.file.object r.file.file ≡ false)
+    → is_awaited_by cs (later_than rest) ≡ false
+unawaited_later cs None h = refl
+unawaited_later cs (Some r) h = h
+
+takes_nothing : (object file : ℕ) (rest : Option Rest) → waits_to_take object file (later_than rest) ≡ false
+takes_nothing object file None = refl
+takes_nothing object file (Some r) = refl
+
+module _ (config : Config) (cs : List Connection) (reading : Reading) (moment : ℕ) (old new : Condition) (s : State) where
+  pub begins_unawaited : HasCleanDisk new → Represents old s → IsFree cs reading → (i : ℕ) (c d : Connection) → c ≡ get_or cs i c → (rest : Option Rest)
+      → d.behind ≡ later_than rest → IfSome rest (BeginsFirst config reading moment old new)
+      → is_awaited_by (set cs i d) (later_than rest) ≡ false
+  begins_unawaited disk represents free i c d item rest is begins =
+      unawaited_later (set cs i d) rest
+      (begins_as (BeginsFirst config reading moment old new) (λ r. any_waits_to_take (set cs i d) r.file.object r.file.file ≡ false) rest
+      (λ r b. any_unset (waits_to_take r.file.object r.file.file) i cs d
+      (ap (waits_to_take r.file.object r.file.file) is ∙ takes_nothing r.file.object r.file.file rest)
+      (item_unawaited config cs reading moment s b.0 b.1 r.file (old.sound_if_kept s represents) free b.2.0 (b.2.1 disk s represents)))
+      begins)
