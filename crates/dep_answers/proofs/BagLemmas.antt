@@ -24,7 +24,7 @@ use Rattle.dep_bag.specs.Bag.{tag_files, bag_files, listed_files, payload}
 use Rattle.dep_bag.proofs.Files.{payload_entry}
 use Rattle.dep_bag.proofs.TagFileParts.{part_of as at_tag_file, by_tag_file}
 use Rattle.dep_bag.proofs.ReportedBag.{same_tag_files}
-use Rattle.dep_answers.specs.Answers.{Document, PlainText, ReplyContent, StoredContent, bytes_of}
+use Rattle.dep_answers.specs.Answers.{Document, PlainText, ReplyContent, bytes_of, shown_file}
 use Rattle.dep_answers.specs.Bags.{BagEntry, bag_entries, tags_shown, payload_shown, shown_in_bag}
 use Rattle.dep_answers.specs.Reporting.{IsTagView, tag_view, view_by}
 use Rattle.dep_answers.specs.Reported.{content_of, form_at}
@@ -33,12 +33,9 @@ use Rattle.dep_answers.specs.Reported.{content_of, form_at}
 abbrev Known : Type 0
 Known = List ℕ × Option ReplyContent
 
-abbrev shown_file : File → ReplyContent
-shown_file file = StoredContent file.media file.content
-
-abbrev reported_entry : Object → List ℕ × BagPart → Known
-reported_entry o (path, Bytes text) = (path, Some (content_of (form_at path) text))
-reported_entry o (path, Stored f) = (path, option_map shown_file (finmap.get o.files f))
+abbrev reported_entry : ℕ → Object → List ℕ × BagPart → Known
+reported_entry n o (path, Bytes text) = (path, Some (content_of (form_at path) text))
+reported_entry n o (path, Stored f) = (path, option_map (shown_file n f) (finmap.get o.files f))
 
 abbrev held_entry : BagEntry → Known
 held_entry place = (place.0, Some place.1)
@@ -46,24 +43,24 @@ held_entry place = (place.0, Some place.1)
 -- ---- what a view tells is the bag
 
 payload_reported : (n : ℕ) (o : Object) (es : List (ℕ × File)) → All (λ e. finmap.get o.files e.0 ≡ Some e.1) es
-    → each (reported_entry o) (each stored_part (each (λ e. file_row n e.0 e.1) es)) ≡ each held_entry (each payload_shown es)
+    → each (reported_entry n o) (each stored_part (each (λ e. file_row n e.0 e.1) es)) ≡ each held_entry (each (payload_shown n) es)
 payload_reported n o [] h = refl
 payload_reported n o (e ∷ es) h = λ i.
-    ((payload_shown e).0, option_map shown_file (All-head (λ e. finmap.get o.files e.0 ≡ Some e.1) e es h i))
+    ((payload_shown n e).0, option_map (shown_file n e.0) (All-head (λ e. finmap.get o.files e.0 ≡ Some e.1) e es h i))
     ∷ payload_reported n o es (All-tail (λ e. finmap.get o.files e.0 ≡ Some e.1) e es h) i
 
-entries_reported : (n : ℕ) (o : Object) → each (reported_entry o) (reported_parts (object_view n o)) ≡ each held_entry (bag_entries o)
+entries_reported : (n : ℕ) (o : Object) → each (reported_entry n o) (reported_parts (object_view n o)) ≡ each held_entry (bag_entries n o)
 entries_reported n o =
     let held = entries-held nat_cmp_total finmap.nat_cmp-IsAntisymmetric o.files in
-    ap (λ (texts : List Entry). each (reported_entry o) (each text_part texts ++ each stored_part (object_view n o).files)) (same_tag_files n o)
+    ap (λ (texts : List Entry). each (reported_entry n o) (each text_part texts ++ each stored_part (object_view n o).files)) (same_tag_files n o)
     ∙ ap (λ (l : List Known). each held_entry (tags_shown o) ++ l) (payload_reported n o (finmap.entries o.files) held)
 
 -- the files of the bag
-pub shown_files : (o : Object) → each (λ (p : BagEntry). (p.0, bytes_of p.1)) (bag_entries o) ≡ bag_files o
+pub shown_files : (n : ℕ) (o : Object) → each (λ (p : BagEntry). (p.0, bytes_of p.1)) (bag_entries n o) ≡ bag_files o
 unfolding bag_files
-shown_files o = ap (λ (l : List Entry). tag_files o ++ l) (same_payload (finmap.entries o.files))
+shown_files n o = ap (λ (l : List Entry). tag_files o ++ l) (same_payload (finmap.entries o.files))
   where
-    same_payload : (es : List (ℕ × File)) → each (λ (p : BagEntry). (p.0, bytes_of p.1)) (each payload_shown es) ≡ each payload_entry es
+    same_payload : (es : List (ℕ × File)) → each (λ (p : BagEntry). (p.0, bytes_of p.1)) (each (payload_shown n) es) ≡ each payload_entry es
     same_payload [] = refl
     same_payload (e ∷ es) = ap (λ (l : List Entry). payload_entry e ∷ l) (same_payload es)
 
@@ -115,17 +112,17 @@ module _ (n : ℕ) (o : Object) (path : List ℕ) where
   part = find (λ p. bytes_eq path p.0) (reported_parts (object_view n o))
 
   abbrev place : Option BagEntry
-  place = find (λ p. bytes_eq path p.0) (bag_entries o)
+  place = find (λ p. bytes_eq path p.0) (bag_entries n o)
 
-  same_path : (p : List ℕ × BagPart) → (reported_entry o p).0 ≡ p.0
+  same_path : (p : List ℕ × BagPart) → (reported_entry n o p).0 ≡ p.0
   same_path (q, Bytes text) = refl
   same_path (q, Stored f) = refl
 
-  both_found : option_map (reported_entry o) part ≡ option_map held_entry place
+  both_found : option_map (reported_entry n o) part ≡ option_map held_entry place
   both_found =
-      sym (found_through path (λ (p : List ℕ × BagPart). p.0) (λ (k : Known). k.0) (reported_entry o) same_path (reported_parts (object_view n o)))
+      sym (found_through path (λ (p : List ℕ × BagPart). p.0) (λ (k : Known). k.0) (reported_entry n o) same_path (reported_parts (object_view n o)))
       ∙ ap (find (λ (k : Known). bytes_eq path k.0)) (entries_reported n o)
-      ∙ found_through path (λ (p : BagEntry). p.0) (λ (k : Known). k.0) held_entry (λ p. refl) (bag_entries o)
+      ∙ found_through path (λ (p : BagEntry). p.0) (λ (k : Known). k.0) held_entry (λ p. refl) (bag_entries n o)
 
   right_path : (p : List ℕ × BagPart) → part ≡ Some p → p.0 ≡ path
   right_path p e =
@@ -138,40 +135,41 @@ same_text a b e = cc
 same_stored : (f g : ℕ) → Some (Stored f) ≡ Some (Stored g) → f ≡ g
 same_stored f g e = cc
 
-by_bytes : (o : Object) (path : List ℕ) (p : Option (List ℕ × BagPart)) (q : Option BagEntry)
-    → option_map (reported_entry o) p ≡ option_map held_entry q → ((x : List ℕ × BagPart) → p ≡ Some x → x.0 ≡ path)
+by_bytes : (n : ℕ) (o : Object) (path : List ℕ) (p : Option (List ℕ × BagPart)) (q : Option BagEntry)
+    → option_map (reported_entry n o) p ≡ option_map held_entry q → ((x : List ℕ × BagPart) → p ≡ Some x → x.0 ≡ path)
     → (text : List ℕ) → Some (Bytes text) ≡ option_map (λ x. x.1) p
     → option_map (λ x. x.1) q ≡ Some (content_of (form_at path) text)
-by_bytes o path None q e right text is = absurd (cc)
-by_bytes o path (Some (r, Bytes t)) None e right text is = absurd (cc)
-by_bytes o path (Some (r, Bytes t)) (Some place) e right text is =
+by_bytes n o path None q e right text is = absurd (cc)
+by_bytes n o path (Some (r, Bytes t)) None e right text is = absurd (cc)
+by_bytes n o path (Some (r, Bytes t)) (Some place) e right text is =
     let known : Some (content_of (form_at r) t) ≡ Some place.1 = ap (λ (k : Known). k.1) (same_some (r, Some (content_of (form_at r) t)) (held_entry place) e) in
     sym known ∙ (λ i. Some (content_of (form_at (right (r, Bytes t) refl i)) (same_text t text (sym is) i)))
-by_bytes o path (Some (r, Stored f)) q e right text is = absurd (cc is)
+by_bytes n o path (Some (r, Stored f)) q e right text is = absurd (cc is)
 
 -- a content that is known is that of a file
-known_file : (m : Option File) (c : ReplyContent) → option_map shown_file m ≡ Some c
-    → (it : File) × ((m ≡ Some it) × (Some c ≡ Some (shown_file it)))
-known_file None c e = absurd (cc)
-known_file (Some it) c e = (it, (refl, sym e))
+known_file : (n f : ℕ) (m : Option File) (c : ReplyContent) → option_map (shown_file n f) m ≡ Some c
+    → (it : File) × ((m ≡ Some it) × (Some c ≡ Some (shown_file n f it)))
+known_file n f None c e = absurd (cc)
+known_file n f (Some it) c e = (it, (refl, sym e))
 
-by_stored : (o : Object) (p : Option (List ℕ × BagPart)) (q : Option BagEntry) → option_map (reported_entry o) p ≡ option_map held_entry q
+by_stored : (n : ℕ) (o : Object) (p : Option (List ℕ × BagPart)) (q : Option BagEntry) → option_map (reported_entry n o) p ≡ option_map held_entry q
     → (f : ℕ) → Some (Stored f) ≡ option_map (λ x. x.1) p
-    → (it : File) × ((finmap.get o.files f ≡ Some it) × (option_map (λ x. x.1) q ≡ Some (shown_file it)))
-by_stored o None q e f is = absurd (cc)
-by_stored o (Some (r, Bytes t)) q e f is = absurd (cc is)
-by_stored o (Some (r, Stored g)) None e f is = absurd (cc)
-by_stored o (Some (r, Stored g)) (Some place) e f is =
-    let known : option_map shown_file (finmap.get o.files g) ≡ Some place.1 =
-    ap (λ (k : Known). k.1) (same_some (r, option_map shown_file (finmap.get o.files g)) (held_entry place) e) in
-    let file = known_file (finmap.get o.files g) place.1 known in
-    (file.0, (ap (finmap.get o.files) (same_stored f g is) ∙ file.1.0, file.1.1))
+    → (it : File) × ((finmap.get o.files f ≡ Some it) × (option_map (λ x. x.1) q ≡ Some (shown_file n f it)))
+by_stored n o None q e f is = absurd (cc)
+by_stored n o (Some (r, Bytes t)) q e f is = absurd (cc is)
+by_stored n o (Some (r, Stored g)) None e f is = absurd (cc)
+by_stored n o (Some (r, Stored g)) (Some place) e f is =
+    let known : option_map (shown_file n g) (finmap.get o.files g) ≡ Some place.1 =
+    ap (λ (k : Known). k.1) (same_some (r, option_map (shown_file n g) (finmap.get o.files g)) (held_entry place) e) in
+    let file = known_file n g (finmap.get o.files g) place.1 known in
+    let same = same_stored f g is in
+    (file.0, (ap (finmap.get o.files) same ∙ file.1.0, file.1.1 ∙ ap (λ (k : ℕ). Some (shown_file n k file.0)) (sym same)))
 
-by_none : (o : Object) (p : Option (List ℕ × BagPart)) (q : Option BagEntry) → option_map (reported_entry o) p ≡ option_map held_entry q
+by_none : (n : ℕ) (o : Object) (p : Option (List ℕ × BagPart)) (q : Option BagEntry) → option_map (reported_entry n o) p ≡ option_map held_entry q
     → None ≡ option_map (λ x. x.1) p → option_map (λ x. x.1) q ≡ None
-by_none o None None e is = refl
-by_none o None (Some place) e is = absurd (cc)
-by_none o (Some x) q e is = absurd (cc)
+by_none n o None None e is = refl
+by_none n o None (Some place) e is = absurd (cc)
+by_none n o (Some x) q e is = absurd (cc)
 
 -- what is read shows what all of the object does
 part_of : (n : ℕ) (o : Object) (path : List ℕ) (view : ObjectView) → IsTagView path view false n o → reported_part view path ≡ reported_part (object_view n o) path
@@ -179,22 +177,22 @@ part_of n o path view e = ap (λ (v : ObjectView). reported_part v path) e ∙ s
 
 -- a text of the bag
 pub text_shown : (n : ℕ) (o : Object) (view : ObjectView) (path text : List ℕ) → IsTagView path view false n o
-    → Some (Bytes text) ≡ reported_part view path → shown_in_bag o path ≡ Some (content_of (form_at path) text)
+    → Some (Bytes text) ≡ reported_part view path → shown_in_bag n o path ≡ Some (content_of (form_at path) text)
 text_shown n o view path text e is =
-    by_bytes o path (part n o path) (place n o path) (both_found n o path) (right_path n o path) text
+    by_bytes n o path (part n o path) (place n o path) (both_found n o path) (right_path n o path) text
     (is ∙ part_of n o path view e)
 
 -- the content of a file of the object
 pub file_shown : (n : ℕ) (o : Object) (view : ObjectView) (path : List ℕ) (f : ℕ) → IsTagView path view false n o
     → Some (Stored f) ≡ reported_part view path
-    → (it : File) × ((finmap.get o.files f ≡ Some it) × (shown_in_bag o path ≡ Some (StoredContent it.media it.content)))
+    → (it : File) × ((finmap.get o.files f ≡ Some it) × (shown_in_bag n o path ≡ Some (shown_file n f it)))
 file_shown n o view path f e is =
-    by_stored o (part n o path) (place n o path) (both_found n o path) f (is ∙ part_of n o path view e)
+    by_stored n o (part n o path) (place n o path) (both_found n o path) f (is ∙ part_of n o path view e)
 
 pub nothing_shown : (n : ℕ) (o : Object) (view : ObjectView) (path : List ℕ) → IsTagView path view false n o
-    → None ≡ reported_part view path → shown_in_bag o path ≡ None
+    → None ≡ reported_part view path → shown_in_bag n o path ≡ None
 nothing_shown n o view path e is =
-    by_none o (part n o path) (place n o path) (both_found n o path) (is ∙ part_of n o path view e)
+    by_none n o (part n o path) (place n o path) (both_found n o path) (is ∙ part_of n o path view e)
 
 -- ---- the tag files by their kinds
 
@@ -224,17 +222,17 @@ module _ (path : List ℕ) where
       placed tag.Declaration _ (placed tag.Information _ (placed (tag.Manifest Sha256) _ (placed (tag.Manifest Sha512) _
       (placed tag.Metadata _ (placed (tag.TagManifest Sha256) _ (placed (tag.TagManifest Sha512) None (λ file is. absurd (cc))))))))
 
-  module _ (o : Object) where
-    pub declaration_shown : tag_file_at path ≡ Some tag.Declaration → shown_in_bag o path ≡ Some (PlainText bagit_text)
-    declaration_shown is = ap (shown_in_bag o) (its_place tag.Declaration is)
+  module _ (n : ℕ) (o : Object) where
+    pub declaration_shown : tag_file_at path ≡ Some tag.Declaration → shown_in_bag n o path ≡ Some (PlainText bagit_text)
+    declaration_shown is = ap (shown_in_bag n o) (its_place tag.Declaration is)
 
-    pub manifest_shown : (a : Algorithm) → tag_file_at path ≡ Some (tag.Manifest a) → shown_in_bag o path ≡ Some (PlainText (manifest_of (digest_by a) (payload o)))
-    manifest_shown Sha256 is = ap (shown_in_bag o) (its_place (tag.Manifest Sha256) is)
-    manifest_shown Sha512 is = ap (shown_in_bag o) (its_place (tag.Manifest Sha512) is)
+    pub manifest_shown : (a : Algorithm) → tag_file_at path ≡ Some (tag.Manifest a) → shown_in_bag n o path ≡ Some (PlainText (manifest_of (digest_by a) (payload o)))
+    manifest_shown Sha256 is = ap (shown_in_bag n o) (its_place (tag.Manifest Sha256) is)
+    manifest_shown Sha512 is = ap (shown_in_bag n o) (its_place (tag.Manifest Sha512) is)
 
-    pub tag_manifest_shown : (a : Algorithm) → tag_file_at path ≡ Some (tag.TagManifest a) → shown_in_bag o path ≡ Some (PlainText (manifest_of (digest_by a) (listed_files o)))
-    tag_manifest_shown Sha256 is = ap (shown_in_bag o) (its_place (tag.TagManifest Sha256) is)
-    tag_manifest_shown Sha512 is = ap (shown_in_bag o) (its_place (tag.TagManifest Sha512) is)
+    pub tag_manifest_shown : (a : Algorithm) → tag_file_at path ≡ Some (tag.TagManifest a) → shown_in_bag n o path ≡ Some (PlainText (manifest_of (digest_by a) (listed_files o)))
+    tag_manifest_shown Sha256 is = ap (shown_in_bag n o) (its_place (tag.TagManifest Sha256) is)
+    tag_manifest_shown Sha512 is = ap (shown_in_bag n o) (its_place (tag.TagManifest Sha512) is)
 
-    pub metadata_shown : tag_file_at path ≡ Some tag.Metadata → shown_in_bag o path ≡ Some (Document (bag_metadata_document o.metadata))
-    metadata_shown is = ap (shown_in_bag o) (its_place tag.Metadata is)
+    pub metadata_shown : tag_file_at path ≡ Some tag.Metadata → shown_in_bag n o path ≡ Some (Document (bag_metadata_document o.metadata))
+    metadata_shown is = ap (shown_in_bag n o) (its_place tag.Metadata is)

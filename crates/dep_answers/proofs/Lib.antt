@@ -11,4 +11,5 @@ pub mod WrittenOut
 pub mod Present
 pub mod Changed
 pub mod RefusedSteps
+pub mod Sources
 pub mod SegmentsStay

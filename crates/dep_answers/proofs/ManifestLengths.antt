@@ -44,11 +44,11 @@ payload_rows n (e ∷ es) = ap (λ (l : List (List ℕ)). payload_path e.0 e.1.n
 
 module _ (s : State) (n : ℕ) (o : Object) (path : List ℕ) (delivery : Delivery) (p : Performed) (a : Algorithm) where
   abbrev SaysPath : Type 0
-  SaysPath = Says s (answer 200 (shown_in_bag o path) None None) delivery (Some p)
+  SaysPath = Says s (answer 200 (shown_in_bag n o path) None None) delivery (Some p)
 
-  shown_as : (text : List ℕ) → shown_in_bag o path ≡ Some (PlainText text) → IsReply s (answer 200 (Some (PlainText text)) None None) delivery p → SaysPath
+  shown_as : (text : List ℕ) → shown_in_bag n o path ≡ Some (PlainText text) → IsReply s (answer 200 (Some (PlainText text)) None None) delivery p → SaysPath
   shown_as text is says =
-      replies_as s (answer 200 (Some (PlainText text)) None None) (answer 200 (shown_in_bag o path) None None) delivery p
+      replies_as s (answer 200 (Some (PlainText text)) None None) (answer 200 (shown_in_bag n o path) None None) delivery p
       (ap (λ (x : Option ReplyContent). answer 200 x None None) (sym is)) says
 
   pub manifest_measured : (view : ObjectView) → tag_file_at path ≡ Some (tag.Manifest a) → delivery.is_head_only ≡ true → IsTagView path view delivery.is_head_only n o
@@ -58,13 +58,13 @@ module _ (s : State) (n : ℕ) (o : Object) (path : List ℕ) (delivery : Delive
       payload_rows n (finmap.entries o.files)
       ∙ ap (map row_path) (sym (ap (λ (v : ObjectView). v.files) is ∙ same_files n o (tag_file_at path) delivery.is_head_only)) in
       let text = manifest_of (digest_by a) (payload o) in
-      shown_as text (manifest_shown path o a at) (says (payload o) rows head_only s text refl)
+      shown_as text (manifest_shown path n o a at) (says (payload o) rows head_only s text refl)
 
   pub tag_manifest_measured : (size : ℕ) → tag_file_at path ≡ Some (tag.TagManifest a) → IsShownByRow path delivery.is_head_only n o
       → ((view : ObjectView) → OfLength a (map (λ file. file.0) (reported_listed view)) (λ length. size ≡ length)) → SaysLength size delivery p → SaysPath
   tag_manifest_measured size at by reported says =
       let text = manifest_of (digest_by a) (listed_files o) in
-      shown_as text (tag_manifest_shown path o a at)
+      shown_as text (tag_manifest_shown path n o a at)
       (says (head_only delivery.is_head_only (ap (λ (file : Option TagFile). tag_read_set n file delivery.is_head_only) (sym at) ∙ by)) s text (sym (reported (object_view n o) (listed_files o) refl)))
     where
       head_only : (b : Bool) → tag_read_set n (Some (tag.TagManifest a)) b ≡ read_set.ObjectRow n → b ≡ true

@@ -20,11 +20,12 @@ use Rattle.dep_bag.specs.declared.part.TagFile.{TagFile}
 use Rattle.dep_bag.specs.declared.part.TagFile.TheVariants as tag
 use Rattle.dep_bag.proofs.Lines.{All-none}
 use Rattle.dep_bag.proofs.Numbered.{HasStorable, files_storable, found_by_number, none_by_number, numbered}
-use Rattle.dep_answers.specs.Answers.{Document, ReplyContent, StoredContent, answer}
+use Rattle.dep_answers.specs.Answers.{Document, ReplyContent, StoredContent, answer, shown_file}
 use Rattle.dep_answers.specs.Bags.{BagEntry, bag_entries, payload_shown, shown_in_bag, tags_shown}
 use Rattle.dep_answers.specs.ReadSets.{files_view, payload_view, shown_at, read_set_in_bag, tag_read_set}
 use Rattle.dep_answers.specs.Reporting.{IsShownByRow, IsTagView, view_by}
 use Rattle.dep_answers.specs.Reported.{bag_answer}
+use Rattle.dep_answers.specs.declared.performed.FileId.{FileId}
 use Rattle.dep_answers.specs.declared.read_set.Shown.{Shown}
 use Rattle.dep_answers.specs.declared.read_set.Shown.TheVariants as shown
 use Rattle.dep_answers.specs.declared.read_set.ReadSet.TheVariants as read_set
@@ -41,8 +42,8 @@ HasNoNumber e = has_number e ≡ false
 tags_unnumbered : (o : Object) → All HasNoNumber (tags_shown o)
 tags_unnumbered o = All-none has_number (tags_shown o) refl
 
-abbrev content_shown : ℕ × File → ReplyContent
-content_shown e = StoredContent e.1.media e.1.content
+abbrev pub content_shown : ℕ → ℕ × File → ReplyContent
+content_shown n e = shown_file n e.0 e.1
 
 module _ (path : List ℕ) (f : ℕ) (of : file_number path ≡ Some f) where
   unnamed : (e : BagEntry) → HasNoNumber e → bytes_eq path e.0 ≡ false
@@ -61,44 +62,44 @@ module _ (path : List ℕ) (f : ℕ) (of : file_number path ≡ Some f) where
       ap (λ b. cond b (Some e) (find (λ (x : BagEntry). bytes_eq path x.0) (tags ++ rest))) (unnamed e (All-head HasNoNumber e tags h))
       ∙ behind_tags tags rest (All-tail HasNoNumber e tags h)
 
-  through : (x : Option (ℕ × File)) → option_map (λ (e : BagEntry). e.1) (option_map payload_shown x) ≡ option_map content_shown x
-  through None = refl
-  through (Some e) = refl
+  through : (n : ℕ) (x : Option (ℕ × File)) → option_map (λ (e : BagEntry). e.1) (option_map (payload_shown n) x) ≡ option_map (content_shown n) x
+  through n None = refl
+  through n (Some e) = refl
 
-  shown_numbered : (o : Object) → All HasStorable (finmap.entries o.files) → shown_in_bag o path ≡ option_map content_shown (numbered path f (finmap.get o.files f))
-  shown_numbered o small =
+  pub shown_numbered : (n : ℕ) (o : Object) → All HasStorable (finmap.entries o.files) → shown_in_bag n o path ≡ option_map (content_shown n) (numbered path f (finmap.get o.files f))
+  shown_numbered n o small =
       ap (option_map (λ (e : BagEntry). e.1))
-      (behind_tags (tags_shown o) (each payload_shown (finmap.entries o.files)) (tags_unnumbered o)
-      ∙ found_through path (λ (e : ℕ × File). payload_path e.0 e.1.name) (λ (e : BagEntry). e.0) payload_shown (λ e. refl) (finmap.entries o.files)
-      ∙ ap (option_map payload_shown) (found_by_number path f of o.files small))
-      ∙ through (numbered path f (finmap.get o.files f))
+      (behind_tags (tags_shown o) (each (payload_shown n) (finmap.entries o.files)) (tags_unnumbered o)
+      ∙ found_through path (λ (e : ℕ × File). payload_path e.0 e.1.name) (λ (e : BagEntry). e.0) (payload_shown n) (λ e. refl) (finmap.entries o.files)
+      ∙ ap (option_map (payload_shown n)) (found_by_number path f of o.files small))
+      ∙ through n (numbered path f (finmap.get o.files f))
 
   module _ (s : State) (sound : IsSound s) (n : ℕ) where
-    bag_numbered : option_and_then (λ (o : Object). shown_in_bag o path) (finmap.get s.objects n) ≡ option_map content_shown (numbered path f (file_at s n f))
+    bag_numbered : option_and_then (λ (o : Object). shown_in_bag n o path) (finmap.get s.objects n) ≡ option_map (content_shown n) (numbered path f (file_at s n f))
     bag_numbered = go (finmap.get s.objects n) refl
       where
-        go : (x : Option Object) → finmap.get s.objects n ≡ x → option_and_then (λ (o : Object). shown_in_bag o path) x ≡ option_map content_shown (numbered path f (option_and_then (λ (o : Object). finmap.get o.files f) x))
+        go : (x : Option Object) → finmap.get s.objects n ≡ x → option_and_then (λ (o : Object). shown_in_bag n o path) x ≡ option_map (content_shown n) (numbered path f (option_and_then (λ (o : Object). finmap.get o.files f) x))
         go None is = refl
-        go (Some o) is = shown_numbered o (files_storable s n o sound is)
+        go (Some o) is = shown_numbered n o (files_storable s n o sound is)
 
     -- the answer, by what the search for the file comes to
-    answered : (x : Option File) → file_at s n f ≡ x → answer 200 (option_map content_shown (numbered path f x)) None None ≡ bag_answer s n path
+    answered : (x : Option File) → file_at s n f ≡ x → answer 200 (option_map (content_shown n) (numbered path f x)) None None ≡ bag_answer s n path
     answered x is =
         sym (ap (λ (c : Option ReplyContent). answer 200 c None None)
-        (bag_numbered ∙ ap (λ (y : Option File). option_map content_shown (numbered path f y)) is))
+        (bag_numbered ∙ ap (λ (y : Option File). option_map (content_shown n) (numbered path f y)) is))
 
     abbrev stands : File → Bool
     stands it = bytes_eq path (payload_path f it.name)
 
     -- the file stands there
-    pub there_answer : (it : File) → file_at s n f ≡ Some it → stands it ≡ true → answer 200 (Some (StoredContent it.media it.content)) None None ≡ bag_answer s n path
+    pub there_answer : (it : File) → file_at s n f ≡ Some it → stands it ≡ true → answer 200 (Some (shown_file n f it)) None None ≡ bag_answer s n path
     there_answer it is at =
-        sym (ap (λ b. answer 200 (option_map content_shown (if b then Some (f, it) else None)) None None) at) ∙ answered (Some it) is
+        sym (ap (λ b. answer 200 (option_map (content_shown n) (if b then Some (f, it) else None)) None None) at) ∙ answered (Some it) is
 
     -- it stands elsewhere
     pub elsewhere_answer : (it : File) → file_at s n f ≡ Some it → stands it ≡ false → answer 200 None None None ≡ bag_answer s n path
     elsewhere_answer it is at =
-        sym (ap (λ b. answer 200 (option_map content_shown (if b then Some (f, it) else None)) None None) at) ∙ answered (Some it) is
+        sym (ap (λ b. answer 200 (option_map (content_shown n) (if b then Some (f, it) else None)) None None) at) ∙ answered (Some it) is
 
     -- there is none
     pub absent_answer : file_at s n f ≡ None → answer 200 None None None ≡ bag_answer s n path
@@ -107,7 +108,7 @@ module _ (path : List ℕ) (f : ℕ) (of : file_number path ≡ Some f) where
 -- ---- where no file can stand
 
 abbrev is_stored : ReplyContent → Bool
-is_stored (StoredContent media content) = true
+is_stored (StoredContent id media content) = true
 is_stored content = false
 
 abbrev IsText : BagEntry → Type 0
@@ -126,22 +127,22 @@ text_found p (x ∷ tags) rest h none e found = go (p x) found (text_found p tag
     go false at later = later at
 
 pub no_payload : (s : State) → IsSound s → (n : ℕ) (o : Object) → finmap.get s.objects n ≡ Some o → (path : List ℕ) → file_number path ≡ None
-    → (media content : List ℕ) → shown_in_bag o path ≡ Some (StoredContent media content) → ⊥
-no_payload s sound n o is path none media content shows = go (find at (bag_entries o)) refl shows
+    → (id : FileId) (media content : List ℕ) → shown_in_bag n o path ≡ Some (StoredContent id media content) → ⊥
+no_payload s sound n o is path none id media content shows = go (find at (bag_entries n o)) refl shows
   where
     at : BagEntry → Bool
     at = λ e. bytes_eq path e.0
 
-    behind : find at (each payload_shown (finmap.entries o.files)) ≡ None
+    behind : find at (each (payload_shown n) (finmap.entries o.files)) ≡ None
     behind =
-        found_through path (λ (e : ℕ × File). payload_path e.0 e.1.name) (λ (e : BagEntry). e.0) payload_shown (λ e. refl) (finmap.entries o.files)
-        ∙ ap (option_map payload_shown) (none_by_number path none o.files (files_storable s n o sound is))
+        found_through path (λ (e : ℕ × File). payload_path e.0 e.1.name) (λ (e : BagEntry). e.0) (payload_shown n) (λ e. refl) (finmap.entries o.files)
+        ∙ ap (option_map (payload_shown n)) (none_by_number path none o.files (files_storable s n o sound is))
 
-    go : (x : Option BagEntry) → find at (bag_entries o) ≡ x → option_map (λ (e : BagEntry). e.1) x ≡ Some (StoredContent media content) → ⊥
+    go : (x : Option BagEntry) → find at (bag_entries n o) ≡ x → option_map (λ (e : BagEntry). e.1) x ≡ Some (StoredContent id media content) → ⊥
     go None found e = cc
     go (Some entry) found e =
-        let text : is_stored entry.1 ≡ false = text_found at (tags_shown o) (each payload_shown (finmap.entries o.files)) (tags_texts o) behind entry found in
-        let same : entry.1 ≡ StoredContent media content = cc in
+        let text : is_stored entry.1 ≡ false = text_found at (tags_shown o) (each (payload_shown n) (finmap.entries o.files)) (tags_texts o) behind entry found in
+        let same : entry.1 ≡ StoredContent id media content = cc in
         let stored : is_stored entry.1 ≡ true = ap is_stored same in
         cc
 
@@ -273,11 +274,11 @@ module _ (s : State) (n : ℕ) (path : List ℕ) (is_head_only : Bool) (sh : Sho
 
   -- where its metadata was shown with it, that stands there
   pub texts_read : (row : ObjectRow) (texts : Texts) → sh ≡ shown.Metadata row texts → IsRead
-      → (o : Object) × ((finmap.get s.objects n ≡ Some o) × (shown_in_bag o path ≡ Some (Document (bag_metadata_document texts))))
+      → (o : Object) × ((finmap.get s.objects n ≡ Some o) × (shown_in_bag n o path ≡ Some (Document (bag_metadata_document texts))))
   texts_read row texts is read =
       let found = tag_read (λ e. cc) (λ row e. cc) read in
       let shows = texts_shown n row texts (tag_file_at path) is_head_only found.0 (sym is ∙ found.1.1.1) in
-      (found.0, (found.1.1.0, metadata_shown path found.0 shows.0 ∙ ap (λ (t : Texts). Some (Document (bag_metadata_document t))) (sym shows.1)))
+      (found.0, (found.1.1.0, metadata_shown path n found.0 shows.0 ∙ ap (λ (t : Texts). Some (Document (bag_metadata_document t))) (sym shows.1)))
 
   -- where a file was shown, it is the one that was read
   pub file_read : (row : FileRow) → sh ≡ shown.File row → IsRead

@@ -43,17 +43,17 @@ found_path path (p ∷ ps) e = go (bytes_eq path p.0) e (found_path path ps)
     go true e later = refl
     go false e later = later e
 
-payload_paths_are : (es : List (ℕ × File)) → each (λ (p : BagEntry). p.0) (each payload_shown es) ≡ each (λ (e : ℕ × File). payload_path e.0 e.1.name) es
-payload_paths_are [] = refl
-payload_paths_are (e ∷ es) = ap (λ (l : List (List ℕ)). payload_path e.0 e.1.name ∷ l) (payload_paths_are es)
+payload_paths_are : (n : ℕ) (es : List (ℕ × File)) → each (λ (p : BagEntry). p.0) (each (payload_shown n) es) ≡ each (λ (e : ℕ × File). payload_path e.0 e.1.name) es
+payload_paths_are n [] = refl
+payload_paths_are n (e ∷ es) = ap (λ (l : List (List ℕ)). payload_path e.0 e.1.name ∷ l) (payload_paths_are n es)
 
-paths_are : (o : Object) → each (λ (p : BagEntry). p.0) (bag_entries o) ≡ bag_paths o
-paths_are o = ap (λ (l : List (List ℕ)). tag_paths ++ l) (payload_paths_are (finmap.entries o.files))
+paths_are : (n : ℕ) (o : Object) → each (λ (p : BagEntry). p.0) (bag_entries n o) ≡ bag_paths o
+paths_are n o = ap (λ (l : List (List ℕ)). tag_paths ++ l) (payload_paths_are n (finmap.entries o.files))
 
-bag_shown : (path : List ℕ) (o : Option Object) → option_map_or (λ (x : Object). list_any (bytes_eq path) (bag_paths x)) o false ≡ true
-    → is_some (option_and_then (λ (x : Object). shown_in_bag x path) o) ≡ true
-bag_shown path None e = absurd (cc)
-bag_shown path (Some o) e = found_path path (bag_entries o) (ap (list_any (bytes_eq path)) (paths_are o) ∙ e)
+bag_shown : (n : ℕ) (path : List ℕ) (o : Option Object) → option_map_or (λ (x : Object). list_any (bytes_eq path) (bag_paths x)) o false ≡ true
+    → is_some (option_and_then (λ (x : Object). shown_in_bag n x path) o) ≡ true
+bag_shown n path None e = absurd (cc)
+bag_shown n path (Some o) e = found_path path (bag_entries n o) (ap (list_any (bytes_eq path)) (paths_are n o) ∙ e)
 
 -- ---- resources
 
@@ -67,4 +67,4 @@ shown_if_there config s (at.File n f) shows e = mapped _ (file_at s n f) (unless
 shown_if_there config s at.Staging shows e = absurd (cc)
 shown_if_there config s (at.Upload u) shows e = mapped _ (finmap.get s.uploads u) (some_upload (finmap.contains_key s.uploads u) (set.contains s.timed_out u) e)
 shown_if_there config s (at.BagList n) shows e = mapped _ (finmap.get s.objects n) (unless-none (has_object s n) NotFound e)
-shown_if_there config s (at.BagFile n path) shows e = bag_shown path (finmap.get s.objects n) (unless-none (has_bag_path s n path) NotFound e)
+shown_if_there config s (at.BagFile n path) shows e = bag_shown n path (finmap.get s.objects n) (unless-none (has_bag_path s n path) NotFound e)

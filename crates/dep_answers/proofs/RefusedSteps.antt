@@ -5,7 +5,7 @@ use Rattle.dep_types.specs.declared.config.Config.{Config}
 use Rattle.dep_types.specs.declared.refusal.Refusal.{Refusal}
 use Rattle.dep_decisions.specs.Rules.{refusal}
 use Rattle.dep_decisions.specs.declared.operation.Operation.{Operation}
-use Rattle.dep_answers.specs.Replies.{stored_text, refused_answer}
+use Rattle.dep_answers.specs.Replies.{source_shown, stored_text, refused_answer}
 use Rattle.dep_answers.specs.Steps.{step_by, refused_step, is_head, operation_step}
 
 -- a refusal shows no content of a file
@@ -13,6 +13,12 @@ pub nothing_stored : (s : State) (r : Refusal) (allow : Option (List ℕ)) (is_h
 unfolding stored_text
 nothing_stored s r allow true = refl
 nothing_stored s r allow false = refl
+
+-- nor is it of a file
+pub no_source : (clock : ℕ) (r : Refusal) (allow : Option (List ℕ)) (is_head_only : Bool) → source_shown (refused_answer clock r allow) is_head_only ≡ None
+unfolding source_shown
+no_source clock r allow true = refl
+no_source clock r allow false = refl
 
 -- the step of a refused request
 pub step_refused : (config : Config) (s : State) (op : Operation) (r : Refusal) → refusal config s op ≡ Some r

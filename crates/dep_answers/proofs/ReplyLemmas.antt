@@ -1,16 +1,17 @@
 -- Replies that are ready.
 use Rattle.std.proofs.Common.{◌≡◌, ◌≢◌, ℕ, ◌==◌, ◌&&◌, ◌||◌, not, Bool, true, false, is_some, List, [], ◌∷◌, ◌++◌, Option, Some, None, option_map, length, refl, sym, ap, subst, ◌∙◌, append-nil}
-use Rattle.std.specs.Prelude.{IsSome, IfSome}
+use Rattle.std.specs.Prelude.{IsSome, IfSome, if◌then◌else◌}
 use Rattle.std.specs.Option.{option_map_or}
 use Rattle.dep_types.specs.State.{State, File, file_at}
 use Rattle.dep_types.specs.Rows.{file_row}
 use Rattle.dep_types.specs.declared.rows.FileRow.{FileRow}
 use Rattle.dep_reply.specs.Head.{ReplyHead, head_text}
-use Rattle.dep_answers.specs.Answers.{Answer, PlainText, ReplyContent, StoredContent, bytes_of, document_of, media_of, stored_of, answer, head_of, is_silent}
-use Rattle.dep_answers.specs.Replies.{unless_head_only, front_text, stored_text}
-use Rattle.dep_answers.specs.Performing.{HasEnd, HasStatus, IsReply, measured_head, stored_in, stored_behind, stored_file}
+use Rattle.dep_answers.specs.Answers.{Answer, PlainText, ReplyContent, bytes_of, document_of, media_of, shown_file, stored_of, answer, head_of, is_silent}
+use Rattle.dep_answers.specs.Replies.{unless_head_only, front_text, source_shown, stored_text}
+use Rattle.dep_answers.specs.Performing.{HasEnd, HasStatus, IsReply, file_id, measured_head, stored_in, stored_behind, stored_file}
 use Rattle.dep_answers.specs.Reporting.{SaysLength}
 use Rattle.dep_answers.specs.declared.performed.Delivery.{Delivery}
+use Rattle.dep_answers.specs.declared.performed.FileId.{FileId}
 use Rattle.dep_answers.specs.declared.performed.Performed.{Performed}
 use Rattle.dep_answers.specs.declared.performed.StoredFile.{StoredFile}
 
@@ -26,10 +27,11 @@ none_there (Some it) e h = cc
 pub text_reply : (s : State) (a : Answer) (delivery : Delivery) (p : Performed)
     → p.front.items ≡ head_text (head_of a delivery.clock delivery.closes) ++ unless_head_only delivery.is_head_only (document_of a.content)
     → stored_of a.content ≡ [] → p.stored ≡ None → IsReply s a delivery p
-unfolding front_text stored_text
+unfolding front_text stored_text source_shown
 text_reply s a delivery p front none nothing = record {
   front = front;
   stored = ap (stored_in s) nothing ∙ sym (ap (unless_head_only delivery.is_head_only) none ∙ nothing_either_way delivery.is_head_only);
+  source = subst (λ (o : Option StoredFile). IfSome o (λ it. source_shown a delivery.is_head_only ≡ Some (file_id it))) (sym nothing) tt;
   not_empty = λ has. absurd (none_there p.stored nothing has);
   size = subst (λ (o : Option StoredFile). IfSome o (λ it. it.size ≡ length (unless_head_only delivery.is_head_only (stored_of a.content)))) (sym nothing) tt;
 }
@@ -73,6 +75,12 @@ not_nothing true content it h = absurd (none_there None refl h)
 not_nothing false [] it h = absurd (none_there None refl h)
 not_nothing false (b ∷ content) it h = λ e. cc
 
+source_behind : (is_head_only : Bool) (content : List ℕ) (it : StoredFile) (id : Option FileId) → id ≡ Some (file_id it)
+    → IfSome (stored_behind is_head_only content it) (λ it. (if is_head_only then None else id) ≡ Some (file_id it))
+source_behind true content it id e = tt
+source_behind false [] it id e = tt
+source_behind false (b ∷ content) it id e = e
+
 sized_behind : (is_head_only : Bool) (content : List ℕ) (it : StoredFile) → it.size ≡ length content
     → IfSome (stored_behind is_head_only content it) (λ it. it.size ≡ length (unless_head_only is_head_only content))
 sized_behind true content it e = tt
@@ -84,16 +92,19 @@ pub stored_ready : (s : State) (file : File) (row : FileRow) (tag : Option ℕ) 
     → file_at s row.object row.file ≡ Some file → row ≡ file_row row.object row.file file
     → p.front.items ≡ head_text (head_by row tag delivery)
     → p.stored ≡ stored_behind delivery.is_head_only file.content (stored_file row)
-    → IsReply s (answer 200 (Some (StoredContent file.media file.content)) tag None) delivery p
-unfolding front_text stored_text
+    → IsReply s (answer 200 (Some (shown_file row.object row.file file)) tag None) delivery p
+unfolding front_text stored_text source_shown
 stored_ready s file row tag delivery p there is front stored =
     let it = stored_file row in
+    let shown = answer 200 (Some (shown_file row.object row.file file)) tag None in
     record {
       front = front ∙ ap (λ (r : FileRow). head_text (head_by r tag delivery)) is
           ∙ sym (append-nil (head_text (head_by (file_row row.object row.file file) tag delivery)))
           ∙ ap (λ (l : List ℕ). head_text (head_by (file_row row.object row.file file) tag delivery) ++ l) (sym (nothing_either_way delivery.is_head_only));
       stored = ap (stored_in s) stored
           ∙ content_behind s delivery.is_head_only file.content it (ap (λ (o : Option File). option_map_or (λ (x : File). x.content) o []) there);
+      source = subst (λ (o : Option StoredFile). IfSome o (λ it. source_shown shown delivery.is_head_only ≡ Some (file_id it))) (sym stored)
+          (source_behind delivery.is_head_only file.content it (Some (file_id it)) refl);
       not_empty = λ has. not_nothing delivery.is_head_only file.content it (subst IsSome stored has);
       size = subst (λ (o : Option StoredFile). IfSome o (λ it. it.size ≡ length (unless_head_only delivery.is_head_only file.content))) (sym stored)
           (sized_behind delivery.is_head_only file.content it (ap (λ (r : FileRow). r.size) is));

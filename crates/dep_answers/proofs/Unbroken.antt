@@ -20,7 +20,7 @@ use Rattle.dep_reply.proofs.LineLemmas.{unbroken_both, unbroken_decimal, unbroke
 use Rattle.dep_reply.proofs.BaseLemmas.{unbroken_base}
 use Rattle.dep_docs_out.specs.Documents.{object_url, upload_url}
 use Rattle.dep_bag.proofs.Keys.{entries-held}
-use Rattle.dep_answers.specs.Answers.{Answer, ReplyContent, Document, StoredContent, media_of, head_of}
+use Rattle.dep_answers.specs.Answers.{Answer, ReplyContent, Document, media_of, head_of, shown_file}
 use Rattle.dep_answers.specs.Bags.{BagEntry, bag_entries, payload_shown, shown_in_bag}
 use Rattle.dep_answers.specs.Replies.{content_at, shown_answer, status_answer, answer_to, refused_answer, last_object, last_upload}
 
@@ -46,7 +46,7 @@ file_media s sound n o there f file held = unbroken_media file.media ((sound.obj
 
 file_content : (s : State) → IsSound s → (n f : ℕ) (o : Option Object) → finmap.get s.objects n ≡ o → (x : Option File)
     → option_and_then (λ (y : Object). finmap.get y.files f) o ≡ x
-    → IfSome (option_map (λ (file : File). StoredContent file.media file.content) x) (λ c. IsTrue (is_unbroken (media_of c)))
+    → IfSome (option_map (shown_file n f) x) (λ c. IsTrue (is_unbroken (media_of c)))
 file_content s sound n f o there None e = tt
 file_content s sound n f None there (Some file) e = absurd (cc)
 file_content s sound n f (Some o) there (Some file) e = file_media s sound n o there f file e
@@ -70,7 +70,7 @@ found_plain path (p ∷ ps) all = go (bytes_eq path p.0) (found_plain path ps al
     go false later = later
 
 payload_plain : (s : State) → IsSound s → (n : ℕ) (o : Object) → finmap.get s.objects n ≡ Some o → (es : List (ℕ × File))
-    → All (λ e. finmap.get o.files e.0 ≡ Some e.1) es → AllByRecursion IsPlainEntry (each payload_shown es)
+    → All (λ e. finmap.get o.files e.0 ≡ Some e.1) es → AllByRecursion IsPlainEntry (each (payload_shown n) es)
 payload_plain s sound n o there [] held = tt
 payload_plain s sound n o there (e ∷ es) held = (
   file_media s sound n o there e.0 e.1 (All-head (λ e. finmap.get o.files e.0 ≡ Some e.1) e es held),
@@ -78,11 +78,11 @@ payload_plain s sound n o there (e ∷ es) held = (
 )
 
 bag_content : (s : State) → IsSound s → (n : ℕ) (path : List ℕ) (o : Option Object) → finmap.get s.objects n ≡ o
-    → IfSome (option_and_then (λ (x : Object). shown_in_bag x path) o) (λ c. IsTrue (is_unbroken (media_of c)))
+    → IfSome (option_and_then (λ (x : Object). shown_in_bag n x path) o) (λ c. IsTrue (is_unbroken (media_of c)))
 bag_content s sound n path None there = tt
 bag_content s sound n path (Some o) there =
     let payload = payload_plain s sound n o there (finmap.entries o.files) (entries-held nat_cmp_total finmap.nat_cmp-IsAntisymmetric o.files) in
-    found_plain path (bag_entries o) (refl, (refl, (refl, (refl, (refl, (refl, (refl, payload)))))))
+    found_plain path (bag_entries n o) (refl, (refl, (refl, (refl, (refl, (refl, (refl, payload)))))))
 
 -- ---- documents and URLs
 

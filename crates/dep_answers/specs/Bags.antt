@@ -7,7 +7,7 @@ use Rattle.dep_docs_out.specs.Documents.{bag_metadata_document}
 use Rattle.dep_manifest.specs.TagFiles.{bagit_text, info_text}
 use Rattle.dep_bag.specs.Bag.{oxum, payload, listed_files}
 use Rattle.dep_manifest.specs.Manifest.{sha256_digest, sha512_digest, manifest_of}
-use Rattle.dep_answers.specs.Answers.{ReplyContent, Document, PlainText, StoredContent}
+use Rattle.dep_answers.specs.Answers.{ReplyContent, Document, PlainText, shown_file}
 
 -- a path, and what is shown there
 abbrev pub BagEntry : Type 0
@@ -25,15 +25,15 @@ tags_shown o =
     ∷ (codes "tagmanifest-sha512.txt", PlainText (manifest_of sha512_digest (listed_files o)))
     ∷ []
 
--- a file of the object, under its own media type
-abbrev pub payload_shown : ℕ × File → BagEntry
-payload_shown e = (payload_path e.0 e.1.name, StoredContent e.1.media e.1.content)
+-- a file of the object of this number, under its own media type
+abbrev pub payload_shown : ℕ → ℕ × File → BagEntry
+payload_shown n e = (payload_path e.0 e.1.name, shown_file n e.0 e.1)
 
 -- the files of the bag, in the order of its list
-abbrev pub bag_entries : Object → List BagEntry
-bag_entries o = tags_shown o ++ map payload_shown (finmap.entries o.files)
+abbrev pub bag_entries : ℕ → Object → List BagEntry
+bag_entries n o = tags_shown o ++ map (payload_shown n) (finmap.entries o.files)
 
 -- what stands at a path, which is compared whole
-abbrev pub shown_in_bag : Object → (path : List ℕ) → Option ReplyContent
-shown_in_bag o path =
-    option_map (λ entry. entry.1) (find (λ entry. bytes_eq path entry.0) (bag_entries o))
+abbrev pub shown_in_bag : ℕ → Object → (path : List ℕ) → Option ReplyContent
+shown_in_bag n o path =
+    option_map (λ entry. entry.1) (find (λ entry. bytes_eq path entry.0) (bag_entries n o))

@@ -1,5 +1,5 @@
 -- Words of the laws.
-use Rattle.std.specs.Prelude.{◌≡◌, ◌⊎◌, Bool, true, false, Some, None, []}
+use Rattle.std.specs.Prelude.{◌≡◌, ◌⊎◌, Bool, true, false, Option, Some, None, option_map, []}
 use Rattle.std.specs.FinMap as finmap
 use Rattle.dep_types.specs.State.{State, Object}
 use Rattle.dep_types.specs.Rows.{object_view, upload_row}
@@ -7,12 +7,14 @@ use Rattle.dep_types.specs.declared.config.Config.{Config}
 use Rattle.dep_types.specs.declared.refusal.Refusal.{Refusal}
 use Rattle.dep_types.specs.declared.target.Method.TheVariants.{Post, Put}
 use Rattle.dep_types.specs.declared.target.Resource.{Resource}
-use Rattle.dep_types.specs.declared.target.Resource.TheVariants.{FileSet, Staging}
+use Rattle.dep_types.specs.declared.target.Resource.TheVariants.{BagFile, File, FileSet, Staging}
 use Rattle.dep_docs_out.specs.Documents.{status_document, object_url, upload_document, upload_url}
 use Rattle.dep_fields.specs.declared.kind.Opening.{Opening}
+use Rattle.dep_bag.specs.Numbered.{file_number}
 use Rattle.dep_decisions.specs.Effects.{effect, fresh}
 use Rattle.dep_decisions.specs.declared.operation.Operation.{Operation}
 use Rattle.dep_answers.specs.Answers.{Document, answer}
+use Rattle.dep_answers.specs.declared.performed.FileId.{FileId}
 use Rattle.dep_answers.specs.Replies.{front_text, refused_answer}
 use Rattle.dep_answers.specs.Steps.{accepted_answer, is_head, operation_step}
 
@@ -21,6 +23,13 @@ abbrev pub is_shown : Resource → Bool
 is_shown (FileSet n) = false
 is_shown Staging = false
 is_shown resource = true
+
+-- the file whose content a GET of the resource sends, where it sends one
+abbrev pub file_read : Resource → Option FileId
+file_read (File n f) = Some (record { object = n; file = f })
+file_read (BagFile n path) =
+    option_map (λ f. record { object = n; file = f }) (file_number path)
+file_read resource = None
 
 -- an object stands at the number that was next, of the change that was next, and is answered with
 pub record IsReportedObject (config : Config) (s : State) (op : Operation) : Type 0 where

@@ -8,6 +8,7 @@ use Rattle.dep_reply.specs.Statuses.{status_number}
 use Rattle.dep_answers.specs.Answers.{Answer, is_silent}
 use Rattle.dep_answers.specs.Steps.{Stepped, answered_step}
 use Rattle.dep_answers.specs.declared.performed.Delivery.{Delivery}
+use Rattle.dep_answers.specs.declared.performed.FileId.{FileId}
 use Rattle.dep_answers.specs.declared.performed.Performed.{Performed}
 use Rattle.dep_answers.specs.declared.performed.StoredFile.{StoredFile}
 use Rattle.dep_types.specs.declared.rows.FileRow.{FileRow}
@@ -17,10 +18,15 @@ abbrev pub stored_in : State → Option StoredFile → List ℕ
 stored_in s None = []
 stored_in s (Some it) = option_map_or (λ file. file.content) (file_at s it.object it.file) []
 
+-- which file that is
+abbrev pub file_id : StoredFile → FileId
+file_id it = record { object = it.object; file = it.file }
+
 -- what is ready is the reply of the step
 pub record IsReady (stepped : Stepped) (p : Performed) : Type 0 where
   pub front : p.front.items ≡ stepped.front
   pub stored : stored_in stepped.state p.stored ≡ stepped.stored
+  pub source : IfSome p.stored (λ it. stepped.source ≡ Some (file_id it))
   pub not_empty : IsSome p.stored → stepped.stored ≢ []
   pub size : IfSome p.stored (λ it. it.size ≡ length stepped.stored)
 

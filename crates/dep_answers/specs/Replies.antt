@@ -15,8 +15,9 @@ use Rattle.dep_reply.specs.Head.{head_text}
 use Rattle.dep_docs_out.specs.Documents.{service_document, status_document, metadata_document, upload_document, error_document, object_url, upload_url}
 use Rattle.dep_bag.specs.Bag.{list_text}
 use Rattle.dep_decisions.specs.LookUps.{tag_at}
-use Rattle.dep_answers.specs.Answers.{Answer, ReplyContent, Document, PlainText, StoredContent, document_of, stored_of, answer, head_of}
+use Rattle.dep_answers.specs.Answers.{Answer, ReplyContent, Document, PlainText, document_of, stored_of, source_of, shown_file, answer, head_of}
 use Rattle.dep_answers.specs.Bags.{shown_in_bag}
+use Rattle.dep_answers.specs.declared.performed.FileId.{FileId}
 
 -- ---- what resources show
 
@@ -41,13 +42,12 @@ abbrev pub content_at : Config → State → Resource → Option ReplyContent
 content_at config s Service = Some (Document (service_document config))
 content_at config s (Object n) = status_at config s n
 content_at config s (Metadata n) = metadata_at config s n
-content_at config s (File n f) =
-    option_map (λ file. StoredContent file.media file.content) (file_at s n f)
+content_at config s (File n f) = option_map (shown_file n f) (file_at s n f)
 content_at config s (Upload u) = upload_at config s u
 content_at config s (BagList n) =
     option_map (λ o. PlainText (list_text (bag_paths o))) (finmap.get s.objects n)
 content_at config s (BagFile n path) =
-    option_and_then (λ o. shown_in_bag o path) (finmap.get s.objects n)
+    option_and_then (λ o. shown_in_bag n o path) (finmap.get s.objects n)
 content_at config s (FileSet n) = None
 content_at config s Staging = None
 
@@ -139,3 +139,7 @@ front_text a clock is_head_only closes =
 -- the content of a file behind it
 unfoldable pub stored_text : Answer → (is_head_only : Bool) → List ℕ
 stored_text a is_head_only = unless_head_only is_head_only (stored_of a.content)
+
+-- the file whose content that is
+unfoldable pub source_shown : Answer → (is_head_only : Bool) → Option FileId
+source_shown a is_head_only = if is_head_only then None else source_of a.content

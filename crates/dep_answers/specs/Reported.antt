@@ -12,7 +12,7 @@ use Rattle.dep_docs_out.specs.Documents.{service_document, status_document, meta
 use Rattle.dep_docs_out.specs.Segments.{ordered_upload_document}
 use Rattle.dep_bag.specs.Bag.{list_text}
 use Rattle.dep_bag.specs.Parts.{reported_paths}
-use Rattle.dep_answers.specs.Answers.{Answer, ReplyContent, Document, PlainText, StoredContent, answer}
+use Rattle.dep_answers.specs.Answers.{Answer, ReplyContent, Document, PlainText, answer, shown_file}
 use Rattle.dep_answers.specs.Bags.{shown_in_bag}
 use Rattle.dep_answers.specs.declared.answer.Form.{Form}
 use Rattle.dep_answers.specs.declared.answer.Form.TheVariants as form
@@ -98,13 +98,13 @@ reported_change config method resource sh = answer 204 None None None
 abbrev pub file_answer : State → FileId → Answer
 file_answer s id =
     answer 200
-    (option_map (λ file. StoredContent file.media file.content) (file_at s id.object id.file))
+    (option_map (shown_file id.object id.file) (file_at s id.object id.file))
     (option_map (λ file. file.tag) (file_at s id.object id.file)) None
 
 -- what stands at a path of an object's bag
 abbrev pub bag_answer : State → (n : ℕ) → (path : List ℕ) → Answer
 bag_answer s n path =
-    answer 200 (option_and_then (λ o. shown_in_bag o path) (finmap.get s.objects n)) None None
+    answer 200 (option_and_then (λ o. shown_in_bag n o path) (finmap.get s.objects n)) None None
 
 -- the form of a tag file
 abbrev pub form_at : (path : List ℕ) → Form

@@ -9,7 +9,8 @@ use Rattle.dep_decisions.specs.declared.operation.Operation.{Operation}
 use Rattle.dep_decisions.specs.Rules.{refusal}
 use Rattle.dep_decisions.specs.Effects.{effect}
 use Rattle.dep_answers.specs.Answers.{Answer}
-use Rattle.dep_answers.specs.Replies.{front_text, stored_text, answer_to, refused_answer}
+use Rattle.dep_answers.specs.Replies.{front_text, stored_text, source_shown, answer_to, refused_answer}
+use Rattle.dep_answers.specs.declared.performed.FileId.{FileId}
 
 -- what a step leaves, what is sent for it, and whether it closes the connection
 pub record Stepped : Type 0 where
@@ -18,6 +19,8 @@ pub record Stepped : Type 0 where
   pub front : List ℕ
   -- the content of a file behind it, as the archive keeps it
   pub stored : List ℕ
+  -- the file whose content that is
+  pub source : Option FileId
   pub closes : Bool
 
 -- all that is sent for a step
@@ -30,6 +33,7 @@ answered_step s a clock is_head_only closes = record {
   state = s;
   front = front_text a clock is_head_only closes;
   stored = stored_text a is_head_only;
+  source = source_shown a is_head_only;
   closes = closes;
 }
 

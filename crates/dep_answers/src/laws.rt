@@ -18,14 +18,15 @@ ghost use Rattle.dep_answers.specs.Answers.{bytes_of, head_of};
 ghost use Rattle.dep_answers.specs.Bags.{bag_entries};
 ghost use Rattle.dep_docs_out.specs.ExampleDocuments.{example_config};
 ghost use Rattle.dep_answers.specs.Examples.{example_state, created_reply, upload_reply, file_head, changed_reply};
-ghost use Rattle.dep_answers.specs.Laws.{IsReportedObject, IsReportedUpload, IsReportedTag, IsReportedRefusal, IsPostOrPut, is_shown};
+ghost use Rattle.dep_answers.specs.Laws.{IsReportedObject, IsReportedUpload, IsReportedTag, IsReportedRefusal, IsPostOrPut, file_read, is_shown};
+ghost use Rattle.dep_answers.specs.declared.performed.FileId.{FileId as AFileId};
 ghost use Rattle.dep_answers.specs.Replies.{answer_to, content_at, refused_answer, front_text, stored_text};
 ghost use Rattle.dep_answers.specs.Steps.{operation_step};
 
 /// What is shown at the paths of an object's bag are the files of the bag.
 pub fn bags_show_their_files()
-    ensures { (o : StateObject)
-        → each (λ entry. (entry.0, bytes_of entry.1)) (bag_entries o) ≡ bag_files o }
+    ensures { (n : ℕ) (o : StateObject)
+        → each (λ entry. (entry.0, bytes_of entry.1)) (bag_entries n o) ≡ bag_files o }
 {}
 
 /// No text in the head of an answer breaks a line, whatever was deposited, so that none can begin
@@ -78,6 +79,13 @@ pub fn refused_requests_change_nothing()
         → refusal config s op ≡ Some r → IsReportedRefusal config s op r }
     ensures alone { (config : AConfig) (s : State) (op : AnOperation) (r : ARefusal)
         → refusal config s op ≡ Some r → (operation_step config s op).stored ≡ [] }
+{}
+
+/// The content of a file is sent for a GET alone, and it is that of the file that the resource names.
+pub fn contents_are_of_the_named_file()
+    ensures { (config : AConfig) (s : State) (op : AnOperation) (id : AFileId) → IsSound s
+        → (operation_step config s op).source ≡ Some id
+        → (op.target.method ≡ AGet) × (file_read op.target.resource ≡ Some id) }
 {}
 
 /// The whole reply to a deposit of one file.

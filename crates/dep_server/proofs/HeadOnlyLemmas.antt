@@ -24,7 +24,7 @@ use Rattle.dep_decisions.specs.Rules.{access_refusal, behalf_rule, content_refus
 use Rattle.dep_decisions.specs.declared.operation.Operation.{Operation}
 use Rattle.dep_decisions.proofs.FoundInMaps.{unless-none}
 use Rattle.dep_decisions.proofs.ReadAlone.{reads_keep}
-use Rattle.dep_answers.specs.Answers.{Answer, ReplyContent, Document, PlainText, StoredContent, bytes_of, document_of, stored_of, head_of}
+use Rattle.dep_answers.specs.Answers.{Answer, ReplyContent, Document, PlainText, StoredContent, bytes_of, document_of, shown_file, stored_of, head_of}
 use Rattle.dep_answers.specs.Bags.{BagEntry, bag_entries, payload_shown, shown_in_bag}
 use Rattle.dep_answers.specs.Replies.{front_text, stored_text, content_at, shown_answer, refused_answer}
 use Rattle.dep_answers.specs.Steps.{Stepped, answered_step, refused_step, accepted_answer, accepted_step, step_by, operation_step}
@@ -39,7 +39,7 @@ use Rattle.dep_server.specs.HeadOnly.{request_by, IsWithoutBody}
 all_of : (content : ReplyContent) → document_of (Some content) ++ stored_of (Some content) ≡ bytes_of content
 all_of (Document bytes) = append-nil bytes
 all_of (PlainText bytes) = append-nil bytes
-all_of (StoredContent media bytes) = refl
+all_of (StoredContent id media bytes) = refl
 
 -- what one reply says, with its body and without
 without_body : (s : State) (a : Answer) (clock : ℕ) (ends : Bool) (content : ReplyContent) → a.content ≡ Some content
@@ -85,17 +85,17 @@ found path (p ∷ them) e =
     found_by (bytes_eq path p.0) p (find (λ (q : BagEntry). bytes_eq path q.0) them)
     (λ f. found path them (behind (bytes_eq path p.0) (list_any (bytes_eq path) (map (λ (q : BagEntry). q.0) them)) e f))
 
-payload_at : (es : List (ℕ × File)) → map (λ (p : BagEntry). p.0) (map payload_shown es) ≡ map (λ (e : ℕ × File). payload_path e.0 e.1.name) es
-payload_at [] = refl
-payload_at (e ∷ es) = ap (λ l. payload_path e.0 e.1.name ∷ l) (payload_at es)
+payload_at : (n : ℕ) (es : List (ℕ × File)) → map (λ (p : BagEntry). p.0) (map (payload_shown n) es) ≡ map (λ (e : ℕ × File). payload_path e.0 e.1.name) es
+payload_at n [] = refl
+payload_at n (e ∷ es) = ap (λ l. payload_path e.0 e.1.name ∷ l) (payload_at n es)
 
-entries_at : (o : Object) → map (λ (p : BagEntry). p.0) (bag_entries o) ≡ bag_paths o
-entries_at o = ap (λ l. tag_paths ++ l) (payload_at (finmap.entries o.files))
+entries_at : (n : ℕ) (o : Object) → map (λ (p : BagEntry). p.0) (bag_entries n o) ≡ bag_paths o
+entries_at n o = ap (λ l. tag_paths ++ l) (payload_at n (finmap.entries o.files))
 
-in_bag : (path : List ℕ) (o : Option Object) → option_map_or (λ (x : Object). list_any (bytes_eq path) (bag_paths x)) o false ≡ true
-    → (content : ReplyContent) × (option_and_then (λ (x : Object). shown_in_bag x path) o ≡ Some content)
-in_bag path None e = cc
-in_bag path (Some o) e = found path (bag_entries o) (ap (λ l. list_any (bytes_eq path) l) (entries_at o) ∙ e)
+in_bag : (n : ℕ) (path : List ℕ) (o : Option Object) → option_map_or (λ (x : Object). list_any (bytes_eq path) (bag_paths x)) o false ≡ true
+    → (content : ReplyContent) × (option_and_then (λ (x : Object). shown_in_bag n x path) o ≡ Some content)
+in_bag n path None e = cc
+in_bag n path (Some o) e = found path (bag_entries n o) (ap (λ l. list_any (bytes_eq path) l) (entries_at n o) ∙ e)
 
 -- a resource that has a GET
 abbrev is_shown : Resource → Bool
@@ -108,11 +108,11 @@ shows : (config : Config) (s : State) (resource : Resource) → is_shown resourc
 shows config s at.Service h e = (Document (service_document config), refl)
 shows config s (at.Object n) h e = there (λ (o : Object). Document (status_document config (object_view n o))) (finmap.get s.objects n) (unless-none _ why.NotFound e)
 shows config s (at.Metadata n) h e = there (λ (o : Object). Document (metadata_document config n o.metadata)) (finmap.get s.objects n) (unless-none _ why.NotFound e)
-shows config s (at.File n f) h e = there (λ (file : File). StoredContent file.media file.content) (file_at s n f) (unless-none _ why.NotFound e)
+shows config s (at.File n f) h e = there (shown_file n f) (file_at s n f) (unless-none _ why.NotFound e)
 shows config s (at.Upload u) h e =
     there (λ (upload : Upload). Document (upload_document config (upload_row u upload) (finmap.keys upload.segments))) (finmap.get s.uploads u) (upload_there _ _ e)
 shows config s (at.BagList n) h e = there (λ (o : Object). PlainText (list_text (bag_paths o))) (finmap.get s.objects n) (unless-none _ why.NotFound e)
-shows config s (at.BagFile n path) h e = in_bag path (finmap.get s.objects n) (unless-none _ why.NotFound e)
+shows config s (at.BagFile n path) h e = in_bag n path (finmap.get s.objects n) (unless-none _ why.NotFound e)
 shows config s (at.FileSet n) h e = cc
 shows config s at.Staging h e = cc
 

@@ -29,7 +29,7 @@ returns-in_ok-described-in-Metadata-clause-says c =
     (λ said says s n sound e.
     let read = texts_read s n c.args.path.now c.args.delivery.is_head_only c.args.shown.now c.in-Metadata.object c.in-Metadata.metadata c.in-Metadata.is e in
     tag_reply_is s n c.args.path.now c.args.delivery said read.0 read.1.0
-    (says_as s _ (answer 200 (shown_in_bag read.0 c.args.path.now) None None) c.args.delivery said
+    (says_as s _ (answer 200 (shown_in_bag n read.0 c.args.path.now) None None) c.args.delivery said
     (c.in_ok-described-in-Metadata.ensures ∙ ap (λ (x : Option ReplyContent). answer 200 x None None) (sym read.1.1)) (says s)))
     c.say.ensures.says
 

@@ -30,7 +30,7 @@ returns-in-Some-Bytes-clause-says c =
     let path = c.args.path.now in
     let reported = ap (λ (x : BagPart). Some x) (sym c.in-Some-Bytes.field-0-is) ∙ (sym c.in-Some-Bytes.is ∙ c.in_ok-text.ensures) in
     IfOk-weaker c.say.result _ _
-    (λ p says s n o sound of there is. says_as s _ (answer 200 (shown_in_bag o path) None None) c.args.delivery p
+    (λ p says s n o sound of there is. says_as s _ (answer 200 (shown_in_bag n o path) None None) c.args.delivery p
     (c.showing.ensures
     ∙ ap (λ (x : ReplyContent). answer 200 (Some x) None None) c.new.ensures
     ∙ ap (λ (f : Form). answer 200 (Some (content_of f c.in-Some-Bytes.text)) None None) c.form_at.ensures
@@ -44,12 +44,12 @@ returns-in-Some-Stored-clause-says c = λ s n o sound of there is.
     let path = c.args.path.now in
     let reported = ap (λ (x : BagPart). Some x) (sym c.in-Some-Stored.field-0-is) ∙ (sym c.in-Some-Stored.is ∙ c.in_ok-text.ensures) in
     let found = file_shown n o c.args.view.now path c.in-Some-Stored.field-0-0 (is ∙ same_view n o (tag_file_at path) c.args.delivery.is_head_only (sym c.in_default.is ∙ c.measured.ensures)) reported in
-    absurd (no_payload s sound n o there path of found.0.media found.0.content found.1.1)
+    absurd (no_payload s sound n o there path of (record { object = n; file = c.in-Some-Stored.field-0-0 }) found.0.media found.0.content found.1.1)
 
 pub returns-in-None-clause-says : goal.returns-in-None-clause-says
 returns-in-None-clause-says c = λ s n o sound of there is.
     let path = c.args.path.now in
     let reported = sym c.in-None.is ∙ c.in_ok-text.ensures in
-    nothing_said (answer 200 (shown_in_bag o path) None None)
+    nothing_said (answer 200 (shown_in_bag n o path) None None)
     (ap (λ (x : Option ReplyContent). answer 200 x None None)
     (sym (nothing_shown n o c.args.view.now path (is ∙ same_view n o (tag_file_at path) c.args.delivery.is_head_only (sym c.in_default.is ∙ c.measured.ensures)) reported)))
