@@ -24,8 +24,9 @@ use Rattle.dep_hub.specs.declared.next.Next.{Next}
 use Rattle.dep_hub.specs.declared.next.Next.TheVariants.{NoSuch}
 use Rattle.dep_hub.specs.declared.sent_on.SentOn.{SentOn}
 use Rattle.dep_hub.specs.declared.sent_on.SentOn.TheVariants.{Part, All, Broken as BrokenOff}
-use Rattle.dep_hub.specs.Claims.{is_content}
+use Rattle.dep_hub.specs.Claims.{is_content, sends_of}
 use Rattle.dep_hub.specs.declared.rest.Rest.{Rest}
+use Rattle.dep_hub.specs.declared.claim.Files.{Files}
 use Rattle.dep_hub.specs.declared.hub.Hub.{Hub}
 use Rattle.dep_hub.specs.declared.connections.Connection.{Connection}
 use Rattle.dep_hub.specs.declared.rest.Behind.{Behind}
@@ -125,6 +126,10 @@ pub paid_all : (s : State) (it : StoredFile) (start : ℕ) (owed sent : List ℕ
     → (rest : List ℕ) × (owed ≡ sent ++ rest) × IsPaid All sent rest × IsOwed s Nothing rest
 paid_all s it start owed sent h x = ([], one_behind s it start owed sent h x ∙ sym (append-nil sent), refl, refl)
 
+-- where no content is left none is sent
+pub sends_nothing : (files : Files) (before : Behind) → false ≡ true → sends_of files before ≡ true
+sends_nothing files before e = cc
+
 pub paid_broken : (s : State) (it : StoredFile) (start : ℕ) (owed sent : List ℕ) → HasBehind s it start owed → IsPrefixBehind s it start sent
     → (rest : List ℕ) × (owed ≡ sent ++ rest) × IsPaid BrokenOff sent rest × IsOwed s Broken rest
 paid_broken s it start owed sent h x = let y = front_behind s it start owed sent h x in (y.0, y.1, tt, tt)
@@ -156,8 +161,9 @@ module _ {A : Type 0} (condition : A → Condition) (old new : Hub A) (n : ℕ) 
       → (IsHonest condition new → (s : State) → Represents (store_of condition old) s → Leaves (store_of condition new) (λ found. found ≡ s))
       → IfShut (store_of condition old) (store_of condition new) (LeavesNoMore (store_of condition old) (store_of condition new))
       → (answer ≢ BrokenOff → failures_after ≡ failures) → is_content b ≡ is_part answer → TakesFew taken takes
+      → ((files : Files) → sends_of files b ≡ true → sends_of files before ≡ true)
       → SendsOn condition taken takes failures failures_after old new n answer
-  sends_on before is answer taken takes failures failures_after sent appends pays stays leaves shut kept left few = record {
+  sends_on before is answer taken takes failures failures_after sent appends pays stays leaves shut kept left few of_same = record {
     sent = sent;
     appends = appends;
     few = few;
@@ -176,6 +182,9 @@ module _ {A : Type 0} (condition : A → Condition) (old new : Hub A) (n : ℕ) 
     shut = shut;
     kept = kept;
     left = ap is_content (behinds n ∙ ap (λ (t : Bool). if t then b else behind_at old.connections.items n) (eq-eqb n n refl)) ∙ left;
+    of_same = λ files sends.
+        let here = behinds n ∙ ap (λ (t : Bool). if t then b else behind_at old.connections.items n) (eq-eqb n n refl) in
+        ap (sends_of files) is ∙ of_same files (sym (ap (sends_of files) here) ∙ sends);
     others = others_stay;
   }
 
@@ -189,7 +198,7 @@ module _ {A : Type 0} (condition : A → Condition) (old new : Hub A) (n : ℕ) 
       (λ clean honest s at. subst (λ (x : Condition). Represents x s) (sym store) at)
       (λ honest s at. subst (λ (x : Condition). Leaves x (λ found. found ≡ s)) (sym store) (settles s at))
       (subst (λ (x : Condition). IfShut (store_of condition old) x (LeavesNoMore (store_of condition old) x)) (sym store) (λ disk none image may. (image, may, λ s. (λ h. h, λ h. h))))
-      (λ _. refl) left (few_none taken)
+      (λ _. refl) left (few_none taken) (λ files sends. sends)
 
 -- one connection alone has something else behind its reply
 module _ (n i : ℕ) (old : List Connection) (c : Connection) (b : Behind) (index : index_of n old ≡ Some i) (item : c ≡ get_or old i c) where

@@ -1,5 +1,5 @@
 -- What a look at the next request of a connection shows.
-use Rattle.std.proofs.Common.{◌≡◌, ◌⊎◌, inl, inr, ℕ, ◌&&◌, Bool, true, false, List, Option, get_or, Some, Result, Ok, Err, IfOk, MatchResult, refl, sym, ap, subst, ◌∙◌}
+use Rattle.std.proofs.Common.{◌≡◌, ◌⊎◌, inl, inr, ℕ, Bool, true, false, List, Option, get_or, Some, Result, Ok, Err, IfOk, MatchResult, refl, sym, ap, subst, ◌∙◌}
 use Rattle.std.specs.declared.alloc.AllocError.{AllocError}
 use Rattle.dep_types.specs.Conditions.{Condition}
 use Rattle.dep_head.specs.Head.{HeadParts}

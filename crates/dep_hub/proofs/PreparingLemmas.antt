@@ -13,7 +13,7 @@ use Rattle.dep_message.specs.Working.{IsBegun}
 use Rattle.dep_message.specs.declared.message.Message.{Message}
 use Rattle.dep_message.proofs.Bodies.{begins_with_head}
 use Rattle.dep_hub.specs.Archives.{KeepsEachState}
-use Rattle.dep_hub.specs.Claims.{is_content, is_pending, is_waiting}
+use Rattle.dep_hub.specs.Claims.{is_content, is_pending, is_waiting, sends_of}
 use Rattle.dep_hub.specs.Holding.{IsHeldAs}
 use Rattle.dep_hub.specs.Numbers.{index_of, Ascends}
 use Rattle.dep_hub.specs.Owing.{IsOwed}
@@ -21,8 +21,9 @@ use Rattle.dep_hub.specs.Preparing.{HasTurn, MakesStepFor, goes_on, ends, is_pre
 use Rattle.dep_hub.specs.Records.{Run, stops, stopped, first_world}
 use Rattle.dep_hub.specs.Representing.{intake_of, store_of}
 use Rattle.dep_hub.specs.RepresentsOwing.{KeptBack, unsent, prepares_still, begins_to_prepare, waits_still, begins_to_wait, lacks_memory, behind_at}
-use Rattle.dep_hub.specs.WorkingAhead.{AheadContents, AheadEnds, AheadRepresents, AheadTakesTurns, IsTurnOf, MakesOneStep, for_none, for_one, PreparesOnce, RestsAhead, steps_below}
+use Rattle.dep_hub.specs.WorkingAhead.{AheadContents, AheadEnds, AheadRepresents, AheadTakesTurns, MakesOneStep, for_none, for_one, PreparesOnce, RestsAhead, steps_below}
 use Rattle.dep_hub.specs.declared.claim.Claim.{Claim}
+use Rattle.dep_hub.specs.declared.claim.Files.{Files}
 use Rattle.dep_hub.specs.declared.connections.Connection.{Connection}
 use Rattle.dep_hub.specs.declared.hub.Hub.{Hub}
 use Rattle.dep_hub.specs.declared.rest.Behind.{Behind}
@@ -92,6 +93,10 @@ step_owes s owed was now (ends left w n) h = subst (λ (b : Behind). IsOwed s b 
 step_content : (was now : Behind) → MakesStepFor was now → is_content now ≡ is_content was
 step_content was now (goes_on left w n) = ap is_content n ∙ sym (ap is_content w)
 step_content was now (ends left w n) = ap is_content n ∙ sym (ap is_content w)
+
+step_sends : (files : Files) (was now : Behind) → MakesStepFor was now → sends_of files now ≡ sends_of files was
+step_sends files was now (goes_on left w n) = ap (sends_of files) n ∙ sym (ap (sends_of files) w)
+step_sends files was now (ends left w n) = ap (sends_of files) n ∙ sym (ap (sends_of files) w)
 
 pub step_idle : (was now : Behind) → MakesStepFor was now → is_pending now ≡ is_pending was
 step_idle was now (goes_on left w n) = ap is_pending n ∙ sym (ap is_pending w)
@@ -219,6 +224,10 @@ module _ {A : Type 0} (condition : A → Condition) (old new : Hub A) where
     by_number (λ (was now : Behind). is_content now ≡ is_content was) (λ b. refl) step_content w.step m,
     by_number (λ (was now : Behind). now ≡ Broken → was ≡ Broken) (λ b h. h) step_whole w.step m,
   )
+
+  -- and of which files
+  pub ahead_sends : (files : Files) → RestsAhead condition old new → (m : ℕ) → sends_of files (behind_at new.connections.items m) ≡ sends_of files (behind_at old.connections.items m)
+  ahead_sends files w m = by_number (λ (was now : Behind). sends_of files now ≡ sends_of files was) (λ b. refl) (step_sends files) w.step m
 
   pub ahead_represents : AheadRepresents condition old new
   ahead_represents w clean world held owed h = record {

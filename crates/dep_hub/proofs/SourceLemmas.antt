@@ -1,5 +1,5 @@
 -- A content that begins is that of the file that its request names, which no waiting request takes.
-use Rattle.std.proofs.Common.{◌≡◌, ℕ, Bool, true, false, List, get_or, set, length, Option, Some, None, refl, sym, ap, subst, ◌∙◌}
+use Rattle.std.proofs.Common.{◌≡◌, ℕ, Bool, true, false, List, get_or, set, Option, Some, None, refl, sym, ap, subst, ◌∙◌}
 use Rattle.std.specs.Prelude.{IfSome}
 use Rattle.dep_types.specs.State.{State, tick}
 use Rattle.dep_types.specs.Sound.{IsSound}
@@ -76,7 +76,7 @@ item_unawaited config cs reading moment s (Fault r head_only) next it sound free
 item_unawaited config cs reading moment s Continue next it sound free first e = absurd (none_some (file_id it) e)
 item_unawaited config cs reading moment s (Request m) next it sound free first e =
     let claims : claim_of m.head ≡ Reads it.object it.file =
-        routed_claims config (tick config s moment) m (target m.head.method m.head.path) (file_id it) (keeps_sound config s moment sound) e in
+    routed_claims config (tick config s moment) m (target m.head.method m.head.path) (file_id it) (keeps_sound config s moment sound) e in
     subst (λ (claim : Claim). has_to_wait cs claim ≡ false) claims (free m next first)
 
 -- ---- a connection that was answered
@@ -99,5 +99,5 @@ module _ (config : Config) (cs : List Connection) (reading : Reading) (moment : 
       (begins_as (BeginsFirst config reading moment old new) (λ r. any_waits_to_take (set cs i d) r.file.object r.file.file ≡ false) rest
       (λ r b. any_unset (waits_to_take r.file.object r.file.file) i cs d
       (ap (waits_to_take r.file.object r.file.file) is ∙ takes_nothing r.file.object r.file.file rest)
-      (item_unawaited config cs reading moment s b.0 b.1 r.file (old.sound_if_kept s represents) free b.2.0 (b.2.1 disk s represents)))
+      (item_unawaited config cs reading moment s b.0 b.1 r.file (old.sound_if_kept s represents) free b.2 (b.3 disk s represents)))
       begins)

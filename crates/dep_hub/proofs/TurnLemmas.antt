@@ -1,17 +1,15 @@
 -- Of the connections whose next request is prepared, the one whose turn it is.
-use Rattle.std.proofs.Common.{◌≡◌, ◌≢◌, ◌⊎◌, inl, inr, ℕ, zero, suc, ◌==◌, ◌+◌, ◌≤◌, ◌<◌, ◌&&◌, ◌||◌, nat_lt, Bool, true, false, List, [], ◌∷◌, length, get_or, Option, None, Some, is_some, if◌then◌else◌, refl, sym, ap, subst, ◌∙◌, arith}
+use Rattle.std.proofs.Common.{◌≡◌, ◌≢◌, ◌⊎◌, inl, inr, ℕ, zero, suc, ◌==◌, ◌+◌, ◌≤◌, ◌<◌, ◌&&◌, nat_lt, Bool, true, false, List, [], ◌∷◌, length, get_or, Option, None, Some, is_some, if◌then◌else◌, refl, sym, ap, subst, ◌∙◌, arith}
 use Rattle.std.specs.Prelude.{MatchOption}
 use Rattle.std.proofs.lemmas.Bool.{cases_lt, cases_Bool}
 use Rattle.std.proofs.lemmas.Bool.Decides.{nat_tests}
 use Rattle.dep_message.specs.Places.{Reading}
-use Rattle.dep_hub.specs.Preparing.{HasTurn, HaveAtMost, IsGreatestBelow, is_preparing, prepared_below}
+use Rattle.dep_hub.specs.Preparing.{HasTurn, HaveAtMost, is_preparing, prepared_below}
 use Rattle.dep_hub.specs.Representing.{intake_of}
 use Rattle.dep_hub.specs.RepresentsOwing.{behind_at}
 use Rattle.dep_hub.specs.WorkingAhead.{IsNoneBetween, IsTurnOf, goes_down, begins_anew, is_turn_before, turns_below}
 use Rattle.dep_hub.specs.declared.connections.Connection.{Connection}
 use Rattle.dep_hub.specs.declared.hub.Hub.{Hub}
-use Rattle.dep_hub.specs.declared.rest.Behind.{Behind}
-use Rattle.dep_hub.specs.declared.rest.Behind.TheVariants.{Nothing, Content, Broken, Waits, Prepares, Prepared}
 
 -- none of the first so many has a greater number
 abbrev pub NeedAtMost : List Connection → (below count most : ℕ) → Type 0
@@ -207,15 +205,15 @@ turns_fewer old new a n next intakes turn last was within p below other =
     let behind = is_behind old.connections.items old.last_turn old.next a n turn p below other in
     let there : is_some (intake_of old.connections.items a) ≡ true = is_there old.connections.items a was in
     let still : (m : ℕ) → comes_before new n m ≡ true → comes_before old n m ≡ true = λ m t.
-        let x = both (is_some (intake_of new.connections.items m)) (is_turn_before new.last_turn n m) t in
-        let y : is_turn_before old.last_turn n m ≡ true = before_still old.last_turn n a behind m (sym (ap (λ (k : ℕ). is_turn_before k n m) last) ∙ x.1) in
-        let z : is_some (intake_of old.connections.items m) ≡ true = sym (ap (λ (o : Option Reading). is_some o) (intakes m)) ∙ x.0 in
-        ap (λ (t : Bool). t && is_turn_before old.last_turn n m) z ∙ y in
+    let x = both (is_some (intake_of new.connections.items m)) (is_turn_before new.last_turn n m) t in
+    let y : is_turn_before old.last_turn n m ≡ true = before_still old.last_turn n a behind m (sym (ap (λ (k : ℕ). is_turn_before k n m) last) ∙ x.1) in
+    let z : is_some (intake_of old.connections.items m) ≡ true = sym (ap (λ (o : Option Reading). is_some o) (intakes m)) ∙ x.0 in
+    ap (λ (t : Bool). t && is_turn_before old.last_turn n m) z ∙ y in
     let here : comes_before old n a ≡ true = ap (λ (t : Bool). t && is_turn_before old.last_turn n a) there ∙ was_before old.last_turn n a behind in
     let gone : comes_before new n a ≡ false =
-        ap (λ (k : ℕ). is_some (intake_of new.connections.items a) && is_turn_before k n a) last
-        ∙ ap (λ (t : Bool). t && is_turn_before a n a) (ap (λ (o : Option Reading). is_some o) (intakes a) ∙ there)
-        ∙ no_more a n a other in
+    ap (λ (k : ℕ). is_some (intake_of new.connections.items a) && is_turn_before k n a) last
+    ∙ ap (λ (t : Bool). t && is_turn_before a n a) (ap (λ (o : Option Reading). is_some o) (intakes a) ∙ there)
+    ∙ no_more a n a other in
     let less = count_less (comes_before new n) (comes_before old n) old.next a within gone here still in
     subst (λ (k : ℕ). turns_below new n k < turns_below old n old.next) (sym next)
     (subst (λ (k : ℕ). k < turns_below old n old.next) (sym (turns_count new n old.next))

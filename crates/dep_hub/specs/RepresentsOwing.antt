@@ -18,7 +18,7 @@ use Rattle.dep_hub.specs.declared.rest.Behind.TheVariants.{Nothing, Content, Bro
 use Rattle.dep_hub.specs.declared.claim.Claim.{Claim}
 use Rattle.dep_hub.specs.declared.claim.Claim.TheVariants.{Takes, Reads}
 use Rattle.dep_hub.specs.declared.claim.Files.{Files}
-use Rattle.dep_hub.specs.Claims.{claim_of, has_to_wait, is_any_pending, is_awaited_by, is_content, waits_to_take}
+use Rattle.dep_hub.specs.Claims.{claim_of, has_to_wait, is_any_pending, is_awaited_by, is_content, sends_of, waits_to_take}
 use Rattle.dep_hub.specs.Preparing.{IsLookedAt, NamesNone, NamesUploads, is_preparing, most_steps, names_uploads}
 use Rattle.dep_hub.specs.declared.sent_on.SentOn.{SentOn}
 use Rattle.dep_hub.specs.declared.sent_on.SentOn.TheVariants.{Part, All, Broken as BrokenOff}
@@ -37,6 +37,12 @@ behind_at (c ∷ connections) number =
 abbrev pub OthersStay : {A : Type 0} → (old new : Hub A) → (number : ℕ) → Type 0
 OthersStay old new number = (m : ℕ) → m ≢ number
     → behind_at new.connections.items m ≡ behind_at old.connections.items m
+
+-- a content of these files is being sent to it alone if one was
+abbrev pub SendsNoOther : {A : Type 0} → (old new : Hub A) → (number : ℕ) → Type 0
+SendsNoOther old new number = (files : Files)
+    → sends_of files (behind_at new.connections.items number) ≡ true
+    → sends_of files (behind_at old.connections.items number) ≡ true
 
 -- ---- requests that wait
 
@@ -200,6 +206,7 @@ module _ {A : Type 0} (condition : A → Condition) where
         (LeavesNoMore (store_of condition old) (store_of condition new))
     pub kept : answer ≢ BrokenOff → failures_after ≡ failures
     pub left : is_content (behind_at new.connections.items number) ≡ is_part answer
+    pub of_same : SendsNoOther old new number
     pub others : OthersStay old new number
 
   -- Where one item is answered that doesn't have to wait, what is owed to other connections is owed still, and

@@ -1,5 +1,5 @@
 -- What working ahead does to a hub, and how the preparing of requests ends.
-use Rattle.std.specs.Prelude.{◌≡◌, ◌⊎◌, ◌<◌, ◌≤◌, ◌+◌, ◌&&◌, ◌||◌, nat_lt, is_some, ℕ, zero, suc, Bool, true, false, List, Option, Some, if◌then◌else◌}
+use Rattle.std.specs.Prelude.{◌≡◌, ◌⊎◌, ◌<◌, ◌≤◌, ◌+◌, ◌&&◌, ◌||◌, nat_lt, is_some, ℕ, zero, suc, Bool, true, false, List, Option, if◌then◌else◌}
 use Rattle.dep_types.specs.Conditions.{Condition}
 use Rattle.dep_hub.specs.Records.{World}
 use Rattle.dep_hub.specs.Archives.{KeepsEachState}

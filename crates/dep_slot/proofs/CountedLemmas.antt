@@ -84,6 +84,7 @@ module _ {A R K S : Type 0} (condition : A → Condition) (unread : R → Option
       prepared = a.prepared;
       others = a.others;
       unbroken = a.unbroken;
+      unawaited = a.unawaited;
       goes = a.goes;
       stirs = stirs_still mid bytes a.stirs;
       leaves = a.leaves;

@@ -144,6 +144,7 @@ module _ {A R K S : Type 0} (condition : A → Condition) (unread : R → Option
       prepared = prepared;
       others = r.others;
       unbroken = unbroken;
+      unawaited = r.unawaited;
       goes = phase;
       stirs = stirs;
       leaves = count;
@@ -184,6 +185,7 @@ module _ {A R K S : Type 0} (condition : A → Condition) (unread : R → Option
     shut = s.shut;
     kept = λ whole. same ∙ s.kept whole;
     left = s.left;
+    of_same = s.of_same;
     others = s.others;
   }
 

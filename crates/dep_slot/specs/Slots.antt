@@ -8,7 +8,7 @@ use Rattle.dep_hub.specs.Representing.{IsClean, IsHonest, intake_of}
 use Rattle.dep_hub.specs.Holding.{KeepsHolding, AnswersOver, IsNext, IsRefused, arrived_by, with_held}
 use Rattle.dep_hub.specs.Owing.{bytes_later, with_more}
 use Rattle.dep_hub.specs.Claims.{is_content}
-use Rattle.dep_hub.specs.RepresentsOwing.{KeepsBack, NextIsFree, NextIsPrepared, OthersStay, Owes, SendsOn as HubSends, behind_at, is_unsent}
+use Rattle.dep_hub.specs.RepresentsOwing.{BeginsUnawaited, KeepsBack, NextIsFree, NextIsPrepared, OthersStay, Owes, SendsOn as HubSends, behind_at, is_unsent}
 use Rattle.dep_hub.specs.declared.rest.Behind.TheVariants.{Broken}
 use Rattle.dep_hub.specs.declared.sent_on.SentOn.{SentOn}
 use Rattle.dep_hub.specs.declared.sent_on.SentOn.TheVariants.{Part, All, Broken as BrokenOff}
@@ -215,6 +215,7 @@ module _ {A R K S : Type 0} (condition : A → Condition) (unread : R → Option
     pub prepared : NextIsPrepared old before.connection
     pub others : OthersStay old new before.connection
     pub unbroken : behind_at new.connections.items before.connection ≢ Broken
+    pub unawaited : BeginsUnawaited condition old new before.connection
     -- a connection is read again once no item of it is complete, and answered again once the content is out
     pub goes : after.state.phase ≡ phase_answered next
         (is_content (behind_at new.connections.items before.connection))

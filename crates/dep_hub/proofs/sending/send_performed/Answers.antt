@@ -1,4 +1,4 @@
-use Rattle.std.proofs.Common.{None, Some, refl, sym, ap, ◌∙◌}
+use Rattle.std.proofs.Common.{◌≡◌, None, Some, refl, sym, ap, ◌∙◌}
 use Rattle.dep_answers.specs.declared.performed.StoredFile.{StoredFile}
 use Rattle.dep_hub.specs.Sending.{outside}
 use Rattle.dep_hub.specs.Owing.{with_more}
@@ -58,10 +58,12 @@ returns-in_default-clause-owing g c = (
 )
 
 pub returns-in-Ok-clause-begins : goal.returns-in-Ok-clause-begins
-returns-in-Ok-clause-begins g c = begins_as _ _ _ (λ r is. c.in-Some.is ∙ ap (λ (it : StoredFile). Some it) (sym is)) c.deliver.ensures.begins
+returns-in-Ok-clause-begins g c = begins_as (λ r. r.file ≡ c.in-Some.it) (λ r. c.args.performed.now.stored ≡ Some r.file) (g.C.Contents.rest c.deliver.new.self)
+    (λ r is. c.in-Some.is ∙ ap (λ (it : StoredFile). Some it) (sym is)) c.deliver.ensures.begins
 
 pub returns-in-Err-clause-begins : goal.returns-in-Err-clause-begins
-returns-in-Err-clause-begins g c = begins_as _ _ _ (λ r is. c.in-Some.is ∙ ap (λ (it : StoredFile). Some it) (sym is)) c.deliver.ensures.begins
+returns-in-Err-clause-begins g c = begins_as (λ r. r.file ≡ c.in-Some.it) (λ r. c.args.performed.now.stored ≡ Some r.file) (g.C.Contents.rest c.deliver.new.self)
+    (λ r is. c.in-Some.is ∙ ap (λ (it : StoredFile). Some it) (sym is)) c.deliver.ensures.begins
 
 pub returns-in-None-clause-begins : goal.returns-in-None-clause-begins
 returns-in-None-clause-begins g c = unbegun _ _ c.requires

@@ -2,7 +2,7 @@ use Rattle.std.proofs.Common.{None, true, false, sym, ap, subst, ◌∙◌}
 use Rattle.dep_message.specs.Places.{Reading}
 use Rattle.dep_message.specs.Stream.{Fault, Continue, Request}
 use Rattle.dep_hub.specs.Sending.{outside}
-use Rattle.dep_hub.specs.Serving.{IsDeadIfShut}
+use Rattle.dep_hub.specs.Serving.{BeginsFirst, BeginsSource, IsDeadIfShut}
 use Rattle.dep_hub.specs.Owing.{with_more}
 use Rattle.dep_hub.proofs.OwingLemmas.{none_later, takes_none}
 use Rattle.dep_hub.proofs.ServingLemmas.{continue_goes_on, request_shuts, request_goes_on, fault_shuts}
@@ -136,9 +136,19 @@ returns-in-Ok-Continue100-clause-begins g c = unbegun _ _ c.requires
 pub returns-in-Ok-Refused-clause-begins : goal.returns-in-Ok-Refused-clause-begins
 returns-in-Ok-Refused-clause-begins g c =
     let h = rw c.in-Ok-Refused.field-0-is at c.in-Ok-Refused.ensures in
-    begins_as _ _ _ (λ r source. (Fault c.in-Ok-Refused.refusal c.in-Ok-Refused.is_head_only, c.next.new.self.place, h.first, source)) c.answer_fault-answer.ensures.begins
+    let config = c.args.context.now.site.now in
+    let old = g.A.Archive.condition c.args.store.now in
+    let new = g.A.Archive.condition c.answer_fault-answer.new.store in
+    begins_as (BeginsSource config (Fault c.in-Ok-Refused.refusal c.in-Ok-Refused.is_head_only) c.args.context.now.moment old new)
+    (BeginsFirst config c.args.intake.now c.args.context.now.moment old new) (g.C.Contents.rest c.answer_fault-answer.new.contents)
+    (λ r source. (Fault c.in-Ok-Refused.refusal c.in-Ok-Refused.is_head_only, c.next.new.self.place, h.first, source)) c.answer_fault-answer.ensures.begins
 
 pub returns-in-Ok-Message-clause-begins : goal.returns-in-Ok-Message-clause-begins
 returns-in-Ok-Message-clause-begins g c =
     let h = rw c.in-Ok-Message.field-0-is at c.in-Ok-Message.ensures in
-    begins_as _ _ _ (λ r source. (Request c.in-Ok-Message.message, c.next.new.self.place, h.0.first, source)) c.answer_message-answer.ensures.begins
+    let config = c.args.context.now.site.now in
+    let old = g.A.Archive.condition c.args.store.now in
+    let new = g.A.Archive.condition c.answer_message-answer.new.store in
+    begins_as (BeginsSource config (Request c.in-Ok-Message.message) c.args.context.now.moment old new)
+    (BeginsFirst config c.args.intake.now c.args.context.now.moment old new) (g.C.Contents.rest c.answer_message-answer.new.contents)
+    (λ r source. (Request c.in-Ok-Message.message, c.next.new.self.place, h.0.first, source)) c.answer_message-answer.ensures.begins

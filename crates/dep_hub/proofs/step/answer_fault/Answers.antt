@@ -1,4 +1,4 @@
-use Rattle.std.proofs.Common.{None, ◌∙◌, inl, inr, refl}
+use Rattle.std.proofs.Common.{◌≡◌, None, Some, ◌∙◌, inl, inr, refl}
 use Rattle.dep_types.specs.State.{tick}
 use Rattle.dep_message.specs.Stream.{Fault}
 use Rattle.dep_hub.specs.Machine.{step}
@@ -84,7 +84,9 @@ returns-in-Ok-refuse-clause-begins g c =
     let config = c.args.context.now.site.now in
     let moment = c.args.context.now.moment in
     let x = c.send_performed-answered.ensures.owing.3 in
-    begins_as _ (BeginsSource config (Fault c.args.fault.refusal c.args.fault.is_head_only) moment (g.A.Archive.condition c.args.store.now) (g.A.Archive.condition c.send_performed-answered.new.store)) _
+    begins_as (λ r. c.in-Ok-refuse.performed.stored ≡ Some r.file)
+    (BeginsSource config (Fault c.args.fault.refusal c.args.fault.is_head_only) moment (g.A.Archive.condition c.args.store.now) (g.A.Archive.condition c.send_performed-answered.new.store))
+    (g.C.Contents.rest c.send_performed-answered.new.contents)
     (λ r is disk s represents.
     let t = (rw (c.config.ensures ∙ c.service.ensures) at c.in-Ok.ensures.does).ok (x.passes.honest disk) s represents tt in
     ready_source (step config s (Fault c.args.fault.refusal c.args.fault.is_head_only) moment) _ r.file (c.in-Ok-refuse.ensures (tick config s moment) t.0) is)

@@ -1,4 +1,4 @@
-use Rattle.std.proofs.Common.{None, ◌∙◌, inl, inr, refl}
+use Rattle.std.proofs.Common.{◌≡◌, None, Some, ◌∙◌, inl, inr, refl}
 use Rattle.dep_types.specs.State.{tick}
 use Rattle.dep_message.specs.Stream.{Request}
 use Rattle.dep_message.specs.declared.message.Message.{Message}
@@ -86,7 +86,9 @@ returns-in-Ok-answer_routed-clause-begins g c =
     let moment = c.args.context.now.moment in
     let m : Message = c.args.item.message in
     let x = c.send_performed-answered.ensures.owing.3 in
-    begins_as _ (BeginsSource config (Request m) moment (g.A.Archive.condition c.args.store.now) (g.A.Archive.condition c.send_performed-answered.new.store)) _
+    begins_as (λ r. c.in-Ok-answer_routed.performed.stored ≡ Some r.file)
+    (BeginsSource config (Request m) moment (g.A.Archive.condition c.args.store.now) (g.A.Archive.condition c.send_performed-answered.new.store))
+    (g.C.Contents.rest c.send_performed-answered.new.contents)
     (λ r is disk s represents.
     let between = x.passes.honest disk in
     let t = (rw (c.config.ensures ∙ c.service.ensures) at c.in-Ok.ensures.does).ok (c.answer_routed.ensures.honest between) s represents tt in

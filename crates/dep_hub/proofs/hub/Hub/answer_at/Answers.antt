@@ -1,19 +1,15 @@
-use Rattle.std.proofs.Common.{◌≡◌, Bool, false, List, set, if◌then◌else◌, refl, sym, ap, subst, ◌∙◌}
-use Rattle.std.proofs.KnownBytes.{Keeps-refl}
+use Rattle.std.proofs.Common.{◌≡◌, Bool, false, set, if◌then◌else◌, refl, sym, ap, subst, ◌∙◌}
 use Rattle.std.proofs.lemmas.Bool.{eq-eqb}
-use Rattle.dep_message.specs.Places.{Reading}
 use Rattle.dep_hub.specs.Owing.{IsOwed, with_more, bytes_later}
 use Rattle.dep_hub.specs.Claims.{is_any_pending, is_any_waiting, is_awaited_by, is_pending, is_waiting}
-use Rattle.dep_hub.specs.RepresentsOwing.{IsFree, KeptBack, behind_at, is_looked_at, is_unsent}
-use Rattle.dep_hub.specs.Preparing.{is_preparing}
-use Rattle.dep_hub.specs.declared.connections.Connection.{Connection}
+use Rattle.dep_hub.specs.RepresentsOwing.{behind_at, is_looked_at}
 use Rattle.dep_hub.specs.declared.rest.Behind.{Behind}
 use Rattle.dep_hub.specs.Sending.{outside}
 use Rattle.dep_hub.proofs.ConnectionLemmas.{index_some, ascends_set}
 use Rattle.dep_hub.proofs.HubLemmas.{stays_there}
 use Rattle.dep_hub.proofs.HoldingLemmas.{comes_next}
 use Rattle.dep_hub.proofs.NextLemmas.{next_there, next_passes}
-use Rattle.dep_hub.proofs.BehindLemmas.{some_such, behind_some, behinds_are, intakes_stay, others_are, owed_at, owed_later, some_reading}
+use Rattle.dep_hub.proofs.BehindLemmas.{behinds_are, others_are, owed_at, owed_later}
 use Rattle.dep_hub.proofs.PendingLemmas.{any_unset, not_broken, not_looked, not_waiting}
 use Rattle.dep_hub.proofs.SourceLemmas.{begins_unawaited}
 use Rattle.dep_hub.proofs.hub.Hub.answer_at.Goals as goal
@@ -89,7 +85,7 @@ returns-clause-replies g c =
       others = others_are n items _ b behinds;
       unawaited = λ honest w held at.
           subst (λ (x : Behind). is_awaited_by (set items c.args.i (record { number = kept.number; intake = c.take_next-next.new.intake; behind = b })) x ≡ false) (sym here)
-          (begins_unawaited c.args.self.now.config items kept.intake c.args.moment (g.A.Archive.condition c.args.self.now.store) store w.state honest at.state free.1.0
+          (begins_unawaited c.args.self.now.config items kept.intake c.args.moment (g.A.Archive.condition c.args.self.now.store) store w.state honest at.state free.1
           c.args.i kept (record { number = kept.number; intake = c.take_next-next.new.intake; behind = b }) c.index_mut-kept.ensures.value
           c.take_next-next.new.contents.rest c.behind_of-behind.ensures c.take_next-next.ensures.begins);
     }

@@ -1,4 +1,4 @@
-use Rattle.std.proofs.Common.{List, set, sym, ap, subst, ◌∙◌}
+use Rattle.std.proofs.Common.{List, set, sym, ap, ◌∙◌}
 use Rattle.dep_message.specs.Places.{Reading}
 use Rattle.dep_hub.specs.Claims.{has_to_wait, waits_on}
 use Rattle.dep_hub.specs.RepresentsOwing.{IsAnswerable, KeptBack}

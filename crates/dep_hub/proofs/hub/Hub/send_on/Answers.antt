@@ -9,7 +9,7 @@ use Rattle.dep_hub.specs.declared.rest.Behind.TheVariants.{Nothing, Content, Bro
 use Rattle.dep_hub.specs.declared.sent_on.SentOn.TheVariants.{Part, All, Broken as BrokenOff}
 use Rattle.dep_hub.proofs.Leaving.{leaves_once}
 use Rattle.dep_hub.proofs.ConnectionLemmas.{ascends_set}
-use Rattle.dep_hub.proofs.BehindLemmas.{behind_none, behind_some, behinds_are, behinds_stay, intakes_stay, nothing_sent, paid_all, paid_broken, paid_part, sends_none, sends_on}
+use Rattle.dep_hub.proofs.BehindLemmas.{behind_none, behind_some, behinds_are, behinds_stay, intakes_stay, nothing_sent, paid_all, paid_broken, paid_part, sends_none, sends_nothing, sends_on}
 use Rattle.dep_hub.proofs.hub.Hub.send_on.Goals as goal
 
 pub invariant_of-self-in-Ok-Some : goal.invariant_of-self-in-Ok-Some
@@ -101,7 +101,7 @@ returns-in-Ok-Some-clause-sends g c =
     (λ clean honest s at. (x.does.ok honest s at tt).1)
     (λ honest s at. leaves_once (g.A.Archive.condition c.stream_on.new.self) s (x.does.stop honest s at tt))
     x.shut.left
-    (λ _. x.count.kept) refl x.few
+    (λ _. x.count.kept) refl x.few (λ files sends. sends)
 
 pub returns-in-Ok-None-clause-sends : goal.returns-in-Ok-None-clause-sends
 returns-in-Ok-None-clause-sends g c =
@@ -119,7 +119,7 @@ returns-in-Ok-None-clause-sends g c =
     (λ clean honest s at. (x.does.ok honest s at tt).1)
     (λ honest s at. leaves_once (g.A.Archive.condition c.stream_on.new.self) s (x.does.stop honest s at tt))
     x.shut.left
-    (λ _. x.count.kept) refl x.few
+    (λ _. x.count.kept) refl x.few (λ files sends. sends_nothing files (Content c.in-Content.rest) sends)
 
 pub returns-in-Err-clause-sends : goal.returns-in-Err-clause-sends
 returns-in-Err-clause-sends g c =
@@ -137,4 +137,4 @@ returns-in-Err-clause-sends g c =
     (λ clean honest s at. x.does.err clean s at)
     (λ honest s at. leaves_once (g.A.Archive.condition c.stream_on.new.self) s (x.does.stop honest s at tt))
     x.shut.left
-    (λ whole. absurd (whole refl)) refl x.few
+    (λ whole. absurd (whole refl)) refl x.few (λ files sends. sends_nothing files (Content c.in-Content.rest) sends)
