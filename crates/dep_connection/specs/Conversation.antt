@@ -141,7 +141,7 @@ module _ {A : Type 0} (condition : A → Condition) where
     pub same_config : new.config ≡ old.config
     pub same_intakes : (m : ℕ)
         → intake_of new.connections.items m ≡ intake_of old.connections.items m
-    pub step : MakesOneStep old.connections.items new.connections.items
+    pub step : MakesOneStep old new
     pub store : KeepsEachState (store_of condition old) (store_of condition new)
     pub commits : CommitsIfDue (may_commit old.store) (may_commit new.store)
         (store_of condition old) (store_of condition new)

@@ -9,6 +9,7 @@ mod ReportLemmas
 mod ReadLemmas
 mod SendLemmas
 mod OweLemmas
+mod AwaitLemmas
 pub mod CloseLemmas
 mod GivenLemmas
 mod ShutLemmas

@@ -103,7 +103,7 @@ joins_same r o s r' o' s' joined er eo es = ap (λ (l : List ℕ). l ++ o') er �
 known_joined : (t : Option (List ℕ)) (r o s : List ℕ) → t ≡ Some r → r ++ o ≡ s → append_known t o ≡ Some s
 known_joined t r o s is joined = ap (λ (k : Option (List ℕ)). append_known k o) is ∙ ap Some joined
 
-replies_join : (n : ℕ) (xs ys : List HostAction) → replies_of n (xs ++ ys) ≡ replies_of n xs + replies_of n ys
+pub replies_join : (n : ℕ) (xs ys : List HostAction) → replies_of n (xs ++ ys) ≡ replies_of n xs + replies_of n ys
 replies_join n [] ys = let none : replies_of n [] ≡ 0 = refl in omega (arith, none)
 replies_join n (d ∷ xs) ys = let e = replies_join n xs ys in omega (arith, e)
 

@@ -5,7 +5,10 @@ use Rattle.dep_types.specs.Conditions.{Condition}
 use Rattle.dep_hub.specs.Records.{Record}
 use Rattle.dep_hub.specs.Representing.{IsClean}
 use Rattle.dep_hub.specs.Holding.{RepresentsHoldingAfter}
-use Rattle.dep_hub.specs.Claims.{is_content}
+use Rattle.dep_hub.specs.Claims.{is_content, sends_of}
+use Rattle.dep_hub.specs.declared.claim.Claim.TheVariants.{Takes}
+use Rattle.dep_hub.specs.declared.claim.Files.{Files}
+use Rattle.dep_hub.specs.declared.rest.Behind.TheVariants.{Waits}
 use Rattle.dep_hub.specs.RepresentsOwing.{behind_at}
 use Rattle.dep_outbox.specs.Wires.{reported, owed_count}
 use Rattle.dep_slot.specs.ConnectionStates.{is_sending}
@@ -16,7 +19,7 @@ use Rattle.dep_slot.specs.declared.slot.Time.{Time}
 use Rattle.dep_slot.specs.Causes.{Causes}
 use Rattle.dep_slot.specs.Notes.{Note}
 use Rattle.dep_host.specs.Sharing.{is_turn}
-use Rattle.dep_host.specs.Hosting.{Position, HostAction, GoesRound, Steps, Reports, AreOutgoing, IsEmpty, WasAwaited, slot_at, replies_to, sendings_at}
+use Rattle.dep_host.specs.Hosting.{Position, HostAction, GoesRound, Step, Steps, Reports, AreOutgoing, IsEmpty, WasAwaited, slot_at, replies_to, sendings_at}
 use Rattle.dep_host.specs.Runs.{RepresentsBehind, KeepsPromise, OwesNone, Follows, StaysOpen, read_of, arrived_of, parts_of, replies_of}
 
 -- what was read of a connection that stays open has arrived, but for what is held
@@ -83,6 +86,27 @@ module _ {A R K S : Type 0} (condition : A → Condition) (unread : R → Option
       × (now : KeepsPromise condition unread taken held q first before (early ++ late))
       × ((number : ℕ) → replies_of number late ≡ 0
       → parts_of number late + length (now.owed number) ≤ length (was.owed number))
+
+  -- one step after another, behind each of which a request of this connection waits that takes these files
+  pub data StepsAwaiting (waiting : ℕ) (files : Files) (first : Position A R K S)
+      : List HostAction → Position A R K S → Type 0 where
+    waits_first : StepsAwaiting waiting files first [] first
+    waits_on : {actions more : List HostAction} {p q : Position A R K S}
+        → StepsAwaiting waiting files first actions p → Step condition unread taken held p q more
+        → behind_at q.hub.connections.items waiting ≡ Waits (Takes files)
+        → StepsAwaiting waiting files first (actions ++ more) q
+
+  -- While a request waits that takes files, no content of these begins: each that is sent then was sent when it began
+  -- to wait, and no item of its connection was answered since.
+  abbrev pub BeginsNoneAwaited : Type 0
+  BeginsNoneAwaited = (p m q : Position A R K S) (early late : List HostAction) (first : State)
+      (before : List Record) → IsEmpty p → OwesNone p.hub
+      → RepresentsHoldingAfter condition p.hub first before (λ n. [])
+      → Steps condition unread taken held p early m → (waiting : ℕ) (files : Files)
+      → StepsAwaiting waiting files m late q → IsClean condition q.hub
+      → (number : ℕ) → sends_of files (behind_at q.hub.connections.items number) ≡ true
+      → (sends_of files (behind_at m.hub.connections.items number) ≡ true)
+      × (replies_of number late ≡ 0)
 
   -- a host that is shut lets nobody in, reads nothing, and stays so
   abbrev pub TakesNothing : Type 0

@@ -1,7 +1,7 @@
 //! What follows from how a host goes on, apart from any code.
 ghost use Rattle.dep_slot.specs.Causes.{causes_of};
 ghost use Rattle.dep_host.specs.Sharing.{TurnsCome};
-ghost use Rattle.dep_host.specs.Laws.{GoesOnInTurn, SendingEnds, MakesRuns, TakesWhatIsSent, ReadsArrive, SitsApart, SitsOpen, KeepsPromises, TakesNothing, SendsContents};
+ghost use Rattle.dep_host.specs.Laws.{BeginsNoneAwaited, GoesOnInTurn, SendingEnds, MakesRuns, TakesWhatIsSent, ReadsArrive, SitsApart, SitsOpen, KeepsPromises, TakesNothing, SendsContents};
 
 use dep_hub::Archive;
 use dep_hub::laws::{answers_make_a_run, connections_make_a_run, replies_make_a_run};
@@ -72,6 +72,14 @@ pub fn sending_ends<A: Archive, R: Source, K: Sink, S: Spool>()
 {
     answers_make_a_run::<A>();
     connections_make_a_run::<A>();
+    replies_make_a_run::<A>();
+}
+
+/// A request that takes files, and waits, waits for those contents of them alone that are sent when it begins to: while it
+/// waits none begins. Each of these goes on in its turn, and ends, so that the request is answered.
+pub fn awaited_contents_end<A: Archive, R: Source, K: Sink, S: Spool>()
+    ensures { BeginsNoneAwaited A.condition R.unread K.taken S.held }
+{
     replies_make_a_run::<A>();
 }
 

@@ -14,7 +14,7 @@ mod OwingLemmas
 mod BehindLemmas
 mod PendingLemmas
 mod TurnLemmas
-mod SourceLemmas
+pub mod SourceLemmas
 mod KeptLemmas
 pub mod PreparingLemmas
 mod LookLemmas

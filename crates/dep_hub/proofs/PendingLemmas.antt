@@ -101,7 +101,7 @@ any_or : (f : Behind → Bool) (b : Behind) (t u : Bool) (c : Behind) → f (if 
 any_or f b true u c e k = ap (λ (x : Bool). x || u) e
 any_or f b false u c e k = ap (λ (x : Bool). f c || x) (k e) ∙ or_true (f c)
 
-any_at : (f : Behind → Bool) (cs : List Connection) (m : ℕ) → f Nothing ≡ false → f (behind_at cs m) ≡ true → list_any (λ (c : Connection). f c.behind) cs ≡ true
+pub any_at : (f : Behind → Bool) (cs : List Connection) (m : ℕ) → f Nothing ≡ false → f (behind_at cs m) ≡ true → list_any (λ (c : Connection). f c.behind) cs ≡ true
 any_at f [] m none e = absurd (true_false (sym e ∙ none))
 any_at f (c ∷ cs) m none e =
     any_or f (behind_at cs m) (c.number == m) (list_any (λ (x : Connection). f x.behind) cs) c.behind e (any_at f cs m none)

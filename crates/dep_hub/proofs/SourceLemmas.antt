@@ -22,16 +22,20 @@ use Rattle.dep_message.specs.declared.message.Message.{Message}
 use Rattle.dep_router.specs.Targets.{target}
 use Rattle.dep_router.specs.declared.routed.Routed.{Routed}
 use Rattle.dep_router.specs.declared.routed.Routed.TheVariants.{To, NotFound, NotAllowed}
-use Rattle.dep_hub.specs.Claims.{any_waits_to_take, claim_by, claim_of, claim_to, has_to_wait, is_awaited_by, reads_of, waits_to_take}
+use Rattle.dep_hub.specs.Claims.{any_waits_to_take, claim_by, claim_of, claim_to, has_to_wait, is_awaited_by, reads_of, sends_of, waits_to_take}
 use Rattle.dep_hub.specs.Machine.{operation_of, routed_step, step}
 use Rattle.dep_hub.specs.Owing.{later_than}
-use Rattle.dep_hub.specs.RepresentsOwing.{IsFree}
+use Rattle.dep_hub.specs.RepresentsOwing.{IsFree, KeepsBack, KeptBack, unsent, prepares_still, begins_to_prepare, waits_still, begins_to_wait, lacks_memory, behind_at}
 use Rattle.dep_hub.specs.Serving.{BeginsFirst}
 use Rattle.dep_hub.specs.declared.claim.Claim.{Claim}
-use Rattle.dep_hub.specs.declared.claim.Claim.TheVariants.{Reads}
+use Rattle.dep_hub.specs.declared.claim.Claim.TheVariants.{Reads, Takes}
+use Rattle.dep_hub.specs.declared.claim.Files.{Files}
+use Rattle.dep_hub.specs.declared.hub.Hub.{Hub}
+use Rattle.dep_hub.specs.declared.rest.Behind.{Behind}
+use Rattle.dep_hub.specs.declared.rest.Behind.TheVariants.{Nothing, Content, Broken, Waits, Prepares, Prepared}
 use Rattle.dep_hub.specs.declared.connections.Connection.{Connection}
 use Rattle.dep_hub.specs.declared.rest.Rest.{Rest}
-use Rattle.dep_hub.proofs.PendingLemmas.{any_unset}
+use Rattle.dep_hub.proofs.PendingLemmas.{any_at, any_unset, true_false}
 
 -- ---- what is ready
 
@@ -101,3 +105,29 @@ module _ (config : Config) (cs : List Connection) (reading : Reading) (moment : 
       (ap (waits_to_take r.file.object r.file.file) is ∙ takes_nothing r.file.object r.file.file rest)
       (item_unawaited config cs reading moment s b.0 b.1 r.file (old.sound_if_kept s represents) free b.2 (b.3 disk s represents)))
       begins)
+
+-- ---- who waits
+
+-- a content that no waiting request takes is of none of the files that one takes
+pub unawaited_unsent : (cs : List Connection) (b : Behind) (waiting : ℕ) (files : Files) → is_awaited_by cs b ≡ false → behind_at cs waiting ≡ Waits (Takes files)
+    → sends_of files b ≡ true → ⊥
+unawaited_unsent cs (Content r) waiting files unawaited waits sends =
+    true_false (sym (any_at (waits_to_take r.file.object r.file.file) cs waiting refl (ap (waits_to_take r.file.object r.file.file) waits ∙ sends)) ∙ unawaited)
+unawaited_unsent cs Nothing waiting files unawaited waits sends = true_false (sym sends)
+unawaited_unsent cs Broken waiting files unawaited waits sends = true_false (sym sends)
+unawaited_unsent cs (Waits claim) waiting files unawaited waits sends = true_false (sym sends)
+unawaited_unsent cs (Prepares left) waiting files unawaited waits sends = true_false (sym sends)
+unawaited_unsent cs Prepared waiting files unawaited waits sends = true_false (sym sends)
+
+-- where a request is kept back, a content goes on that was there
+kept_as : (files : Files) (connections : List Connection) (reading : Reading) (was now : Behind) → KeptBack connections reading was now → sends_of files now ≡ true → sends_of files was ≡ true
+kept_as files cs reading was now (unsent u same) sends = sym (ap (sends_of files) same) ∙ sends
+kept_as files cs reading was now (prepares_still u same) sends = sym (ap (sends_of files) same) ∙ sends
+kept_as files cs reading was now (begins_to_prepare w names is) sends = absurd (true_false (sym sends ∙ ap (sends_of files) is))
+kept_as files cs reading was now (waits_still claim w is held) sends = absurd (true_false (sym sends ∙ ap (sends_of files) is))
+kept_as files cs reading was now (begins_to_wait claim u has is held) sends = absurd (true_false (sym sends ∙ ap (sends_of files) is))
+kept_as files cs reading was now (lacks_memory u pending has is) sends = absurd (true_false (sym sends ∙ ap (sends_of files) is))
+
+pub kept_sends : {A : Type 0} {condition : A → Condition} {t k : Option (List ℕ)} {f g : ℕ} (files : Files) (old new : Hub A) (n : ℕ) → KeepsBack condition t k f g old new n
+    → sends_of files (behind_at new.connections.items n) ≡ true → sends_of files (behind_at old.connections.items n) ≡ true
+kept_sends files old new n k = kept_as files old.connections.items k.reading (behind_at old.connections.items n) (behind_at new.connections.items n) k.why

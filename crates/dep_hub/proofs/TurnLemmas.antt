@@ -8,6 +8,7 @@ use Rattle.dep_hub.specs.Preparing.{HasTurn, HaveAtMost, is_preparing, prepared_
 use Rattle.dep_hub.specs.Representing.{intake_of}
 use Rattle.dep_hub.specs.RepresentsOwing.{behind_at}
 use Rattle.dep_hub.specs.WorkingAhead.{IsNoneBetween, IsTurnOf, goes_down, begins_anew, is_turn_before, turns_below}
+use Rattle.dep_hub.proofs.PendingLemmas.{true_false}
 use Rattle.dep_hub.specs.declared.connections.Connection.{Connection}
 use Rattle.dep_hub.specs.declared.hub.Hub.{Hub}
 
@@ -27,9 +28,6 @@ pub none_there : (cs ds : List Connection) (last next : ℕ) (o : Option ℕ) �
 none_there cs ds last next o same is found = subst (λ (l : List Connection). HaveAtMost l next 0) same (subst (λ (x : Option ℕ). MatchOption x (HaveAtMost cs next 0) (HasTurn cs last next)) is found)
 
 -- ---- by their numbers
-
-true_false : {b : Bool} → b ≡ true → b ≡ false → ⊥
-true_false t f = cc
 
 -- where one is prepared and below the number, that is known of it
 positive : (b t : Bool) (n : ℕ) → 0 < (if b then if t then n + 1 else 0 else 0) → (b ≡ true) × ((t ≡ true) × ((if b then if t then n + 1 else 0 else 0) ≡ n + 1))
@@ -105,7 +103,7 @@ count f (suc n) = count f n + (if f n then 1 else 0)
 
 one_at_most : (a b : Bool) → (a ≡ true → b ≡ true) → (if a then 1 else 0) ≤ (if b then 1 else 0)
 one_at_most true true h = omega arith
-one_at_most true false h = absurd (true_false (h refl) refl)
+one_at_most true false h = absurd (true_false (sym (h refl)))
 one_at_most false true h = omega arith
 one_at_most false false h = omega arith
 
@@ -118,8 +116,8 @@ count_most f g (suc n) h =
 
 one_less : (a b : Bool) → a ≡ false → b ≡ true → (if a then 1 else 0) < (if b then 1 else 0)
 one_less false true out within = omega arith
-one_less true b out within = absurd (true_false refl out)
-one_less false false out within = absurd (true_false within refl)
+one_less true b out within = cc out
+one_less false false out within = cc within
 
 count_less : (f g : ℕ → Bool) (k a : ℕ) → a < k → f a ≡ false → g a ≡ true → ((m : ℕ) → f m ≡ true → g m ≡ true) → count f k < count g k
 count_less f g zero a l out within h = absurd (omega (arith, l))
