@@ -126,6 +126,35 @@ def is_known(what, host, *requests):
     return took
 
 
+# A deposit whose upload has to be hashed is answered after so many seconds at most, beside so many others who make new ones.
+NEWCOMERS, SOON = 8, 20
+
+
+def hashed_in_turn(folder, path):
+    """How many seconds a deposit takes that has to be hashed behind a restart, beside clients who make deposits of nothing over and
+    over: each of these waits for its turn to be prepared, too."""
+    with Host(folder) as host, ThreadPoolExecutor(NEWCOMERS) as pool:
+        nothing = by_reference({f"{host.base}/staging/{10**6}": "attachment; filename=a"})
+        is_over = threading.Event()
+
+        def come_anew(_):
+            with Client(host, PATIENCE) as client:
+                while not is_over.is_set():
+                    client.ask(404, "POST", "/service", *nothing)
+
+        coming = [pool.submit(come_anew, it) for it in range(NEWCOMERS)]
+        time.sleep(0.1)
+        with Client(host, PATIENCE) as client:
+            began = time.monotonic()
+            client.ask(*refused(host, [path]))
+            took = time.monotonic() - began
+        is_over.set()
+        for it in coming:
+            it.result()
+    expect(f"whether a deposit is hashed within {SOON} s beside {NEWCOMERS} who make new ones, {took:.1f} s", took <= SOON, True)
+    return took
+
+
 def waits():
     """What is refused without a look at an upload's bytes, or once they were hashed, and what shows none of an object's many texts,
     holds nobody up, nor does the hashing that a deposit has to wait for. What a host had time to hash isn't hashed anew, also behind
@@ -151,13 +180,14 @@ def waits():
             told = [is_short(what, lambda: waited(host, *request)) for what, request in asked.items()]
         told += [is_short(f"the digests of {SIZE // MIB} MiB behind a restart", lambda: waited_anew(folder, [path])),
                  is_short(f"those of {SMALL} uploads", lambda: waited_anew(folder, small))]
+        in_turn = hashed_in_turn(folder, path)
         with Host(folder) as host:
             expect("whether a host rests behind a restart", rest(host), True)
             took = [is_known("a deposit behind a restart", host, refused(host, [path])),
                     is_known(f"a deposit of {SMALL} uploads", host, refused(host, small)),
                     is_known(f"{SMALL} deposits, one after another", host, *(refused(host, [it]) for it in small))]
     return (f"others waited {max(told):.0f} ms at most for refused deposits of {SIZE // MIB} MiB, and beside {TEXTS:,} texts; what was "
-            f"hashed behind a restart took {max(took):.2f} s")
+            f"hashed behind a restart took {max(took):.2f} s, and a deposit beside {NEWCOMERS} newcomers {in_turn:.1f} s")
 
 
 # ---- fair ----
