@@ -1,6 +1,6 @@
 -- What is behind the last replies of connections.
 use Rattle.std.specs.Prelude.{◌||◌}
-use Rattle.std.proofs.Common.{◌≡◌, ◌≢◌, ℕ, suc, zero, ◌==◌, ◌+◌, ◌<◌, ◌≤◌, Bool, true, false, List, [], ◌∷◌, ◌++◌, get_or, set, drop, Option, Some, None, if◌then◌else◌, refl, sym, ap, subst, ◌∙◌, arith}
+use Rattle.std.proofs.Common.{◌≡◌, ◌≢◌, ◌⊎◌, inl, inr, ℕ, suc, zero, ◌==◌, ◌+◌, ◌<◌, ◌≤◌, Bool, true, false, List, [], ◌∷◌, ◌++◌, get_or, set, drop, Option, Some, None, if◌then◌else◌, refl, sym, ap, subst, ◌∙◌, arith}
 use Rattle.std.specs.Option.{option_map}
 use Rattle.std.proofs.lemmas.Bool.Decides.{nat_tests}
 use Rattle.std.proofs.lemmas.List.{append-nil}
@@ -30,7 +30,8 @@ use Rattle.dep_hub.specs.declared.claim.Files.{Files}
 use Rattle.dep_hub.specs.declared.hub.Hub.{Hub}
 use Rattle.dep_hub.specs.declared.connections.Connection.{Connection}
 use Rattle.dep_hub.specs.declared.rest.Behind.{Behind}
-use Rattle.dep_hub.specs.declared.rest.Behind.TheVariants.{Nothing, Content, Broken}
+use Rattle.dep_hub.specs.declared.claim.Claim.{Claim}
+use Rattle.dep_hub.specs.declared.rest.Behind.TheVariants.{Nothing, Content, Broken, Waits, Prepares, Prepared}
 use Rattle.dep_hub.proofs.ConnectionLemmas.{index_some, intake_set}
 use Rattle.dep_hub.proofs.Leaving.{Settles}
 use Rattle.dep_hub.proofs.OwingLemmas.{few_none}
@@ -125,6 +126,14 @@ paid_part s it start next owed sent h x = (x.0, one_behind s it start owed (sent
 pub paid_all : (s : State) (it : StoredFile) (start : ℕ) (owed sent : List ℕ) → HasBehind s it start owed → HasBehind s it start sent
     → (rest : List ℕ) × (owed ≡ sent ++ rest) × IsPaid All sent rest × IsOwed s Nothing rest
 paid_all s it start owed sent h x = ([], one_behind s it start owed sent h x ∙ sym (append-nil sent), refl, refl)
+
+-- of a reply that was all sent no bytes are owed, and no content
+pub all_sent : (b : Behind) → (b ≡ Nothing) ⊎ (((x : Claim) × (b ≡ Waits x)) ⊎ (((x : ℕ) × (b ≡ Prepares x)) ⊎ (b ≡ Prepared)))
+    → ((s : State) (owed : List ℕ) → IsOwed s b owed → owed ≡ []) × (is_content b ≡ false)
+all_sent b (inl e) = (λ s owed h. subst (λ (x : Behind). IsOwed s x owed) e h, ap is_content e)
+all_sent b (inr (inl (x, e))) = (λ s owed h. subst (λ (x : Behind). IsOwed s x owed) e h, ap is_content e)
+all_sent b (inr (inr (inl (x, e)))) = (λ s owed h. subst (λ (x : Behind). IsOwed s x owed) e h, ap is_content e)
+all_sent b (inr (inr (inr e))) = (λ s owed h. subst (λ (x : Behind). IsOwed s x owed) e h, ap is_content e)
 
 -- where no content is left none is sent
 pub sends_nothing : (files : Files) (before : Behind) → false ≡ true → sends_of files before ≡ true

@@ -375,10 +375,8 @@ impl<A: Archive> Hub<A> {
         };
         let kept = &mut self.connections[i];
         match kept.behind {
-            Behind::Nothing => SentOn::All,
-            Behind::Waits(_) => SentOn::All,
-            Behind::Prepares(_) => SentOn::All,
-            Behind::Prepared => SentOn::All,
+            Behind::Nothing | Behind::Waits(_) | Behind::Prepares(_) | Behind::Prepared =>
+                SentOn::All,
             Behind::Broken => SentOn::Broken,
             Behind::Content(rest) => match self.store.stream_on(rest.file, rest.sent, out) {
                 Ok(Some(sent)) => {

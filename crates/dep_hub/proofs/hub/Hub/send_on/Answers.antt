@@ -9,7 +9,7 @@ use Rattle.dep_hub.specs.declared.rest.Behind.TheVariants.{Nothing, Content, Bro
 use Rattle.dep_hub.specs.declared.sent_on.SentOn.TheVariants.{Part, All, Broken as BrokenOff}
 use Rattle.dep_hub.proofs.Leaving.{leaves_once}
 use Rattle.dep_hub.proofs.ConnectionLemmas.{ascends_set}
-use Rattle.dep_hub.proofs.BehindLemmas.{behind_none, behind_some, behinds_are, behinds_stay, intakes_stay, nothing_sent, paid_all, paid_broken, paid_part, sends_none, sends_nothing, sends_on}
+use Rattle.dep_hub.proofs.BehindLemmas.{all_sent, behind_none, behind_some, behinds_are, behinds_stay, intakes_stay, nothing_sent, paid_all, paid_broken, paid_part, sends_none, sends_nothing, sends_on}
 use Rattle.dep_hub.proofs.hub.Hub.send_on.Goals as goal
 
 pub invariant_of-self-in-Ok-Some : goal.invariant_of-self-in-Ok-Some
@@ -58,25 +58,8 @@ pub returns-in-Nothing-clause-sends : goal.returns-in-Nothing-clause-sends
 returns-in-Nothing-clause-sends g c =
     nothing_sent g.A.Archive.condition c.args.self.now _ c.args.connection c.in-Some.i c.index_mut-kept.result.now
     (ap (index_of c.args.connection) (sym c.as_slice.ensures.value) ∙ sym c.in-Some.ensures.value) c.index_mut-kept.ensures.value refl refl refl (g.met.A.Archive.settled c.args.self.now.store)
-    All (g.O.Outlet.taken c.args.out.now) (g.O.Outlet.failures c.args.out.now) (λ s owed owes. subst (λ (x : Behind). IsOwed s x owed) c.in-Nothing.is owes) (ap is_content c.in-Nothing.is)
-
-pub returns-in-Waits-clause-sends : goal.returns-in-Waits-clause-sends
-returns-in-Waits-clause-sends g c =
-    nothing_sent g.A.Archive.condition c.args.self.now _ c.args.connection c.in-Some.i c.index_mut-kept.result.now
-    (ap (index_of c.args.connection) (sym c.as_slice.ensures.value) ∙ sym c.in-Some.ensures.value) c.index_mut-kept.ensures.value refl refl refl (g.met.A.Archive.settled c.args.self.now.store)
-    All (g.O.Outlet.taken c.args.out.now) (g.O.Outlet.failures c.args.out.now) (λ s owed owes. subst (λ (x : Behind). IsOwed s x owed) c.in-Waits.is owes) (ap is_content c.in-Waits.is)
-
-pub returns-in-Prepares-clause-sends : goal.returns-in-Prepares-clause-sends
-returns-in-Prepares-clause-sends g c =
-    nothing_sent g.A.Archive.condition c.args.self.now _ c.args.connection c.in-Some.i c.index_mut-kept.result.now
-    (ap (index_of c.args.connection) (sym c.as_slice.ensures.value) ∙ sym c.in-Some.ensures.value) c.index_mut-kept.ensures.value refl refl refl (g.met.A.Archive.settled c.args.self.now.store)
-    All (g.O.Outlet.taken c.args.out.now) (g.O.Outlet.failures c.args.out.now) (λ s owed owes. subst (λ (x : Behind). IsOwed s x owed) c.in-Prepares.is owes) (ap is_content c.in-Prepares.is)
-
-pub returns-in-Prepared-clause-sends : goal.returns-in-Prepared-clause-sends
-returns-in-Prepared-clause-sends g c =
-    nothing_sent g.A.Archive.condition c.args.self.now _ c.args.connection c.in-Some.i c.index_mut-kept.result.now
-    (ap (index_of c.args.connection) (sym c.as_slice.ensures.value) ∙ sym c.in-Some.ensures.value) c.index_mut-kept.ensures.value refl refl refl (g.met.A.Archive.settled c.args.self.now.store)
-    All (g.O.Outlet.taken c.args.out.now) (g.O.Outlet.failures c.args.out.now) (λ s owed owes. subst (λ (x : Behind). IsOwed s x owed) c.in-Prepared.is owes) (ap is_content c.in-Prepared.is)
+    All (g.O.Outlet.taken c.args.out.now) (g.O.Outlet.failures c.args.out.now) (all_sent c.index_mut-kept.result.now.behind c.in-Nothing.is).0
+    (all_sent c.index_mut-kept.result.now.behind c.in-Nothing.is).1
 
 pub returns-in-Broken-clause-sends : goal.returns-in-Broken-clause-sends
 returns-in-Broken-clause-sends g c =
