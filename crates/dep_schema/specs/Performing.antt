@@ -9,12 +9,12 @@ use Rattle.dep_decisions.specs.declared.operation.Operation.{Operation}
 use Rattle.dep_tables.specs.Tables.{Tables}
 use Rattle.dep_staging.specs.HashedAhead.{AreRunning}
 use Rattle.dep_staging.specs.declared.running.RunningHashes.{RunningHashes}
-use Rattle.dep_requests.specs.Performing.{ChangesNothing}
+use Rattle.dep_requests.specs.Performing.{ChangesNothing, IsDone}
 use Rattle.dep_requests.specs.declared.performing.Done.{Done}
 use Rattle.dep_answers.specs.Steps.{operation_step}
 use Rattle.dep_answers.specs.Performing.{IsReady}
 use Rattle.dep_schema.specs.States.{Represents}
-use Rattle.dep_schema.specs.Transactions.{OverStatesWhere, IsGivenBack}
+use Rattle.dep_schema.specs.Transactions.{OverStates, OverStatesWhere, IsGivenBack}
 
 -- the reply of the step is ready
 abbrev pub IsAnswered : Config → Operation → State → Done → Type 0
@@ -26,6 +26,16 @@ abbrev pub StepsOver : Config → Operation → RunningHashes → Tables → Don
 StepsOver config op running before done after = AreFit op.fields
     → OverStatesWhere (λ s. AreRunning s running) (IsAnswered config op)
     (λ s. (operation_step config s op).state) before done after
+
+-- so it is where nothing needs to have been hashed ahead
+abbrev pub StepsAlone : Config → Operation → Tables → Done → Tables → Type 0
+StepsAlone config op before done after = AreFit op.fields
+    → OverStates (IsAnswered config op) (λ s. (operation_step config s op).state) before done after
+
+-- and where nothing was
+abbrev pub IsDoneAlone : (old new : db.State) → Config → Operation → Done → Type 0
+IsDoneAlone old new config op done = (none : RunningHashes) × ((s : State) → AreRunning s none)
+    × IsDone old new config op none done
 
 module _ (old new : db.State) (result : Result Done StoreFault) where
   -- it returns that nothing was changed just where it is refused, or only asks to be shown

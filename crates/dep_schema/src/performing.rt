@@ -1,11 +1,12 @@
 //! What is done for a request, in a transaction of its own.
 
-ghost use Rattle.std.specs.Prelude.{◌≡◌, false, IfOk};
+ghost use Rattle.std.specs.Prelude.{◌≡◌, false, IfOk, IsTrue};
 ghost use Rattle.sqlite.specs.Held.{state};
 ghost use Rattle.dep_requests.specs.Performing.{IsDone};
 ghost use Rattle.dep_requests.specs.Performing as within;
+ghost use Rattle.dep_requests.specs.Caching.{is_plain_read};
 ghost use Rattle.dep_schema.specs.OpenTables.{StaysOn};
-ghost use Rattle.dep_schema.specs.Performing.{KeepsRunning, StepsOver, ReportsChanges, IsBackUnchanged};
+ghost use Rattle.dep_schema.specs.Performing.{IsDoneAlone, KeepsRunning, StepsAlone, StepsOver, ReportsChanges, IsBackUnchanged};
 ghost use Rattle.dep_schema.specs.Transactions.{Transacts};
 
 use crate::committing::commit;
@@ -13,14 +14,14 @@ use crate::lending::Lent;
 use crate::probing::check_open;
 use dep_answers::Service;
 use dep_decisions::Operation;
-use dep_requests::{Done, answer_operation};
+use dep_requests::{Done, answer_operation, is_plain_read};
 use dep_staging::RunningHashes;
 use dep_types::StoreFault;
 use sqlite::{Alter, Connection, Transaction};
 use std::alloc::Global;
 
-/// Lends the transaction to `answer_operation` and takes it back, so that its clauses are bound to the connection here, once, and
-/// not at each end of `perform_request`.
+/// Lends the transaction to `answer_operation` and takes it back, so that its clauses are bound to the connection here, and not
+/// at each end of `perform_request`. A request that only reads is given nothing that was hashed.
 fn answer_within<S: Alter>(
     tx: &mut Transaction<'_, S>,
     alloc: Global,
@@ -32,8 +33,15 @@ fn answer_within<S: Alter>(
         service.now operation.now running.old) }
     ensures running { within.KeepsRunning (state S.Store tx.old.conn.now)
         (state S.Store tx.new.conn.now) running.old running.new }
+    ensures plain { IsTrue (is_plain_read operation.now) → IfOk result
+        (IsDoneAlone (state S.Store tx.old.conn.now) (state S.Store tx.new.conn.now)
+        service.now operation.now) }
     ensures stays { StaysOn S.Store tx.old.conn tx.new.conn result }
 {
+    if is_plain_read(operation) {
+        let mut none = RunningHashes::new(alloc);
+        return answer_operation(&mut Lent { tx }, alloc, &mut none, service, operation);
+    }
     answer_operation(&mut Lent { tx }, alloc, running, service, operation)
 }
 
@@ -51,6 +59,10 @@ pub fn perform_request<S: Alter>(
     requires settled { (state S.Store connection.old).in_transaction ≡ false }
     ensures transacts { Transacts (state S.Store connection.old) (state S.Store connection.new) result
         (StepsOver service.now operation.now running.old) }
+    // A request that only reads needs nothing that was hashed.
+    ensures plain { IsTrue (is_plain_read operation.now)
+        → Transacts (state S.Store connection.old) (state S.Store connection.new) result
+        (StepsAlone service.now operation.now) }
     ensures changes { ReportsChanges (state S.Store connection.old) (state S.Store connection.new) result
         service.now operation.now running.old }
     ensures running { KeepsRunning (state S.Store connection.old) (state S.Store connection.new)

@@ -75,8 +75,8 @@ fn upgrade_tables<T: Statements>(tx: &mut T, values: &[FileSha512]) -> Result<()
 }
 
 /// Turns the tables of version 1 into those of version 2, with these values of its files and none of uploads. A number of
-/// a file of 2^63 or more, and two values of one file, are a fault of the store. A fault, also of the commit, and want of
-/// memory leave the tables as they were.
+/// a file of 2^63 or more, and two values of one file, are a fault of the store. After a fault, also of the commit, or out of
+/// memory the tables are as they were.
 pub fn upgrade<S: Alter>(
     connection: &mut Connection<S>,
     values: &[FileSha512],

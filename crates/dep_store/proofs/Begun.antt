@@ -1,10 +1,13 @@
 -- A file that is found to be there, so that its content can be sent in steps.
 use Rattle.std.proofs.Common.{◌≡◌, ℕ, List, [], Option, Some, Result, Ok, Err, IsErr, IsTrue, false, refl, sym, subst}
 use Rattle.std.proofs.KnownBytes.{Appends-nil}
+use Rattle.std.proofs.lemmas.Result.{IfOk-from_err}
 use Rattle.sqlite.specs.State as db
 use Rattle.sqlite.specs.State.{HasCleanDisk}
 use Rattle.dep_types.specs.State.{State, File, file_at}
+use Rattle.dep_types.specs.declared.stream_fault.StreamFault.{StreamFault}
 use Rattle.dep_types.specs.declared.stream_fault.StreamFault.TheVariants.{Store as StoreFails}
+use Rattle.dep_hub.specs.Archives.{CountsFailures}
 use Rattle.dep_answers.specs.declared.performed.StoredFile.{StoredFile}
 use Rattle.dep_tables.specs.Tables.{Tables, tables_of}
 use Rattle.dep_row_maps.specs.TablesAre.{TablesAre}
@@ -17,7 +20,7 @@ use Rattle.dep_store.specs.Caching.{IsCached, IsOfOpen, IsKnownFile}
 use Rattle.dep_store.specs.SendingOn.{BeginsIfOpen, FindsSize, SendsOn}
 use Rattle.dep_store.proofs.Contents.{content_same}
 use Rattle.dep_store.proofs.SentOn.{keeps_open, none_taken, nothing_sent}
-use Rattle.dep_store.proofs.ShutLemmas.{fails_still, was_open_then}
+use Rattle.dep_store.proofs.ShutLemmas.{fails_staying, fails_still, was_open_then}
 use Rattle.dep_store.proofs.Tries.{busy_fails, busy_tries, failed_keeping}
 
 -- all of it is behind its front
@@ -50,17 +53,28 @@ module _ (old new : db.State) (it : StoredFile) (settled : IsTrue old.is_open �
     shut = fails_still old new (Err fault) failed restored.survives;
   }
 
+  -- the file was not found, or its next bytes could not be read
+  pub sends_not : (taken : Option (List ℕ)) (failures start : ℕ) (r : Result (Option ℕ) StreamFault) → IsErr r → CountsFailures failures failures r → IsRestored old new
+      → SendsOn old new taken taken failures failures it start r
+  sends_not taken failures start r failed count restored = record {
+    streams = ([], Appends-nil taken, λ clean s represents. nothing_sent s it start r failed);
+    few = none_taken taken;
+    does = failed_keeping old new r failed settled restored.back restored.survives;
+    count = count;
+    stays = fails_staying old new r failed restored;
+  }
+
 -- a transaction is under way
-pub busy_begins : {A E : Type 0} {fault : E} (d : db.State) (it : StoredFile) → IsTrue d.in_transaction → BeginsIfOpen {A = A} d d it (Err fault)
-busy_begins d it busy = record { begins = ([], λ clean. tt); does = busy_tries d busy; shut = busy_fails d busy }
+pub busy_begins : {A E : Type 0} (d : db.State) (it : StoredFile) → IsTrue d.in_transaction → (r : Result A E) → IsErr r → BeginsIfOpen d d it r
+busy_begins d it busy r failed = record { begins = ([], λ clean. IfOk-from_err r _ failed); does = busy_tries d busy r failed; shut = busy_fails d busy r failed }
 
 pub busy_sends_on : (d : db.State) → IsTrue d.in_transaction → (taken : Option (List ℕ)) (failures : ℕ) (it : StoredFile) (start : ℕ) → SendsOn d d taken taken failures failures it start (Err StoreFails)
 busy_sends_on d busy taken failures it start = record {
   streams = ([], Appends-nil taken, λ clean s at. nothing_sent s it start (Err StoreFails) refl);
   few = none_taken taken;
-  does = busy_tries d busy;
+  does = busy_tries d busy (Err StoreFails) refl;
   count = record { kept = tt; cause = λ is. cc is; others = λ other. refl };
-  stays = record { shut = busy_fails d busy; back = tt; opened = λ clean. tt };
+  stays = record { shut = busy_fails d busy (Err StoreFails) refl; back = tt; opened = λ clean. tt };
 }
 
 -- what was cached, and the file that was known, are so still, where all was given back and the store is open

@@ -19,7 +19,7 @@ use Rattle.dep_staging.proofs.AheadLemmas.{still_hashed}
 use Rattle.dep_schema.specs.Performing.{KeepsRunning}
 use Rattle.dep_schema.specs.States.{Represents}
 use Rattle.dep_types.specs.Conditions.{Condition, Represents as RepresentsAs, HasCleanDisk}
-use Rattle.dep_hub.specs.Archives.{TriesTo, KeepsState, KeepsAll, KeepsEachState, FailsIfShut}
+use Rattle.dep_hub.specs.Archives.{TriesTo, Always, KeepsState, KeepsAll, KeepsEachState, FailsIfShut}
 use Rattle.dep_hub.proofs.Leaving.{Settles, leaves_before, leaves_once}
 use Rattle.dep_store.specs.Archive as store
 use Rattle.dep_store.specs.Shut as db_shut
@@ -66,6 +66,10 @@ module _ (d d' : db.State) (runs runs' : RunningHashes) where
 
   pub shut_hashed : {A E : Type 0} (r : Result A E) → db_shut.FailsIfShut d d' r → FailsIfShut (shown_by d runs) (shown_by d' runs') r
   shut_hashed r it = record { opened = it.opened; left = λ clean shut image h. (image, it.left clean shut image h, λ s. (λ x. x, λ x. x)) }
+
+-- one that keeps the state, and hashes nothing
+pub state_hashed : {A E : Type 0} (d d' : db.State) (runs : RunningHashes) (r : Result A E) → KeepsState (store.shown_by d) (store.shown_by d') r → KeepsState (shown_by d runs) (shown_by d' runs) r
+state_hashed d d' runs r it = tries_hashed d d' runs runs Always Always (λ s answer. Unit {0}) (λ s. s) r (λ s its are. tt) (λ is_open s represents are. are) (λ s are. are) it
 
 -- it failed as another call did
 pub tries_failed : {A E F : Type 0} (old new : Condition) (holds : State → Type 0) (reported : State → A → Type 0) (next : State → State) (fault : F) (r : Result A E) → IsErr r

@@ -21,17 +21,15 @@ use Rattle.dep_answers.specs.Steps.{Stepped, operation_step, step_by}
 use Rattle.dep_answers.specs.declared.performed.Performed.{Performed}
 use Rattle.dep_answers.specs.declared.performed.StoredFile.{StoredFile}
 use Rattle.dep_requests.specs.declared.performing.Done.{Done}
-use Rattle.dep_staging.specs.HashedAhead.{AreRunning}
 use Rattle.dep_staging.specs.declared.running.RunningHashes.{RunningHashes}
-use Rattle.dep_tables.specs.Tables.{Tables}
-use Rattle.dep_schema.specs.Performing.{KeepsRunning, StepsOver, ReportsChanges, IsBackUnchanged}
+use Rattle.dep_schema.specs.Performing.{KeepsRunning, StepsAlone, StepsOver, ReportsChanges, IsBackUnchanged}
 use Rattle.dep_schema.specs.States.{Represents}
 use Rattle.dep_schema.specs.Transactions.{FindsOpen, Transacts}
 use Rattle.dep_schema.proofs.Transacting.{IsSettled, after_back, given_back_then}
 use Rattle.dep_files.proofs.Streams.{IsSized}
 use Rattle.dep_requests.specs.Caching.{has_value, is_plain_read}
-use Rattle.dep_store.specs.Caching.{IsOfSize, ShowsFile}
-use Rattle.dep_store.specs.Shut.{PerformsIfOpen}
+use Rattle.dep_store.specs.Caching.{IsOfSize}
+use Rattle.dep_store.specs.Shut.{FailsIfShut}
 use Rattle.dep_store.proofs.ShutLemmas.{state_back, was_open_then}
 
 -- ---- a request that only reads, and tells of no content
@@ -78,48 +76,44 @@ ready_sized s stepped p same ready = go p.stored ready.stored ready.not_empty re
         let found = there (file_at stepped.state it.object it.file) stepped.stored is (some refl) in
         (found.0, ap (λ (z : State). file_at z it.object it.file) (sym same) ∙ found.1, size ∙ ap length (sym found.2))
 
-pub shows_file : (old new : db.State) (config : Config) (op : Operation) (running : RunningHashes) (result : Result Done StoreFault) → ((s : State) → AreRunning s running)
-    → IsTrue (is_plain_read op) → Transacts old new result (StepsOver config op running) → HasCleanDisk new → (s : State) → Represents old s
+-- the file whose content the reply to such a request has is there
+abbrev pub ShowsFile : (old new : db.State) → Result Done StoreFault → Operation → Type 0
+ShowsFile old new result op = IsTrue (is_plain_read op) → HasCleanDisk new → (s : State) → Represents old s
     → IfOk result (λ done. IfSome done.performed.stored (IsOfSize s))
-shows_file old new config op running result any plain it clean s represents =
+
+pub shows_file : (old new : db.State) (config : Config) (op : Operation) (result : Result Done StoreFault)
+    → (IsTrue (is_plain_read op) → Transacts old new result (StepsAlone config op)) → ShowsFile old new result op
+shows_file old new config op result it plain clean s represents =
     let reads = plain_reads op plain in
     IfOk-weaker result _ _
-    (λ (done : Done) made. ready_sized s (operation_step config s op) done.performed (step_stays config s op reads.0) (made.2 reads.1 s represents.means (any s)).0)
-    (it.ok clean represents.tables represents.represents)
+    (λ (done : Done) made. ready_sized s (operation_step config s op) done.performed (step_stays config s op reads.0) (made.2 reads.1 s represents.means).0)
+    ((it plain).ok clean represents.tables represents.represents)
 
--- ---- of what was hashed, such a request needs nothing
+-- ---- a request that is performed once the store was found open
 
--- where less is needed, it is done all the more
-pub transacts_with : (old new : db.State) (config : Config) (op : Operation) (needed running : RunningHashes) (result : Result Done StoreFault)
-    → ((s : State) → AreRunning s running → AreRunning s needed) → Transacts old new result (StepsOver config op needed) → Transacts old new result (StepsOver config op running)
-transacts_with old new config op needed running result need it = record {
-  ok = λ clean t represents. IfOk-weaker result _ _ (λ (done : Done) made. (made.0, made.1, wider t done made.0 made.2)) (it.ok clean t represents);
-  err = it.err;
-  honest = it.honest;
-  was_open = it.was_open;
-  stop = λ clean t represents trees h. elim (it.stop clean t represents trees h) [
-    | inl earlier ↦ inl earlier
-    | inr (done, after, holds, made) ↦ inr (done, after, holds, wider t done after made)
-  ];
-}
-  where
-    wider : (t : Tables) (done : Done) (after : Tables) → StepsOver config op needed t done after → StepsOver config op running t done after
-    wider t done after made = λ fit s means are. made fit s means (need s are)
+-- on a store that was shut it fails, else it is one transaction, given back where nothing was changed, and shows a file that is there
+pub record PerformsIfOpen (old new : db.State) (result : Result Done StoreFault) (config : Config)
+    (op : Operation) (running later : RunningHashes) : Type 0 where
+  pub shut : FailsIfShut old new result
+  pub transacts : Transacts old new result (StepsOver config op running)
+  pub changes : ReportsChanges old new result config op running
+  pub hashed : KeepsRunning old new running later
+  pub back : IsBackUnchanged old new result
+  pub shows : ShowsFile old new result op
 
--- a request that is performed once the store was found open
-pub performs : (old mid new : db.State) (config : Config) (op : Operation) (needed running later : RunningHashes) (result : Result Done StoreFault)
+pub performs : (old mid new : db.State) (config : Config) (op : Operation) (running later : RunningHashes) (result : Result Done StoreFault)
     → (IsTrue old.is_open → IsSettled old) → (IsTrue mid.is_open → HasCleanDisk mid) → FindsOpen {A = Unit {0}} {E = StoreFault} old mid (Ok tt)
-    → ((s : State) → AreRunning s running → AreRunning s needed) → KeepsRunning mid new running later → ShowsFile mid new result op
-    → Transacts mid new result (StepsOver config op needed) → ReportsChanges mid new result config op needed → IsBackUnchanged mid new result
+    → KeepsRunning mid new running later → ShowsFile mid new result op
+    → Transacts mid new result (StepsOver config op running) → ReportsChanges mid new result config op running → IsBackUnchanged mid new result
     → PerformsIfOpen old new result config op running later
-performs old mid new config op needed running later result settled shut found need keeps shows does changes unchanged =
+performs old mid new config op running later result settled shut found keeps shows does changes unchanged =
     let back = found.restored.back in
     let opened = λ (clean : HasCleanDisk new). found.opened (does.honest clean) in
     let represents = λ (clean : HasCleanDisk new) (s : State) (was : Represents old s). state_back old mid s back (opened clean) was in
     record {
       shut = was_open_then old new result (λ clean. (back (opened clean)).0);
-      transacts = after_back old mid new result _ settled shut back found.restored.survives found.opened (transacts_with mid new config op needed running result need does);
-      changes = λ clean s was are. changes clean s (represents clean s was) (need s are);
+      transacts = after_back old mid new result _ settled shut back found.restored.survives found.opened does;
+      changes = λ clean s was are. changes clean s (represents clean s was) are;
       hashed = λ is_open s was. keeps is_open s (state_back old mid s back (does.was_open is_open) was);
       back = IfOk-weaker result _ _ (λ (answer : Done) given same. given_back_then old mid new back found.restored.survives (given same)) unchanged;
       shows = λ plain clean s was. shows plain clean s (represents clean s was);

@@ -23,11 +23,6 @@ on_any : {A E : Type 0} (r : Result A E) (P : Type 0) → P → OnOk r P
 on_any (Ok answer) P h = h
 on_any (Err e) P h = tt
 
--- a transaction is under way
-pub under_way : (mode : Bool) → false ≡ not mode → IsTrue mode
-under_way true reported = refl
-under_way false reported = cc reported
-
 -- nothing was committed
 pub leaves_no_more : (old new : db.State) → Survives old new (λ _. ⊥) → LeavesNoMore old new
 leaves_no_more old new survives clean shut trees h = elim (survives.crash clean trees h) [ inl earlier ↦ earlier | inr none ↦ absurd none ]

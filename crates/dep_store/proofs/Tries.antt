@@ -1,6 +1,7 @@
 -- What a call on a store comes to, as those who serve it see it, from what it makes of the tables.
 use Rattle.std.proofs.Common.{◌≡◌, ℕ, List, [], Option, inl, inr, Result, Ok, Err, IsErr, OnOk, OnErr, IfOk, IsTrue, false, refl, le_of_eq, sym, subst, arith, ◌∙◌}
 use Rattle.std.proofs.KnownBytes.{Appends-nil}
+use Rattle.std.proofs.lemmas.Result.{IfOk-from_err}
 use Rattle.sqlite.specs.State as db
 use Rattle.sqlite.specs.State.{HasCleanDisk, Survives}
 use Rattle.sqlite.specs.Tree.{Trees}
@@ -9,6 +10,7 @@ use Rattle.dep_types.specs.declared.config.Config.{Config}
 use Rattle.dep_types.specs.declared.stream_fault.StreamFault.{StreamFault}
 use Rattle.dep_types.specs.declared.stream_fault.StreamFault.TheVariants.{Writer, Store as StoreFails}
 use Rattle.dep_tables.specs.Tables.{Tables}
+use Rattle.dep_tables.proofs.Results.{if_failed}
 use Rattle.dep_staging.specs.declared.running.RunningHashes.{RunningHashes}
 use Rattle.dep_files.specs.Faults.{BlamesOutlet}
 use Rattle.dep_schema.specs.OpenTables.{Holds, StaysFile}
@@ -143,33 +145,33 @@ module _ (d : db.State) (busy : IsTrue d.in_transaction) where
   represents_not : (t : Tables) → StaysFile d t → ⊥
   represents_not t represents = absurd (let never = sym busy ∙ represents.settled in cc never)
 
-  pub busy_tries : {A E : Type 0} {holds : State → Type 0} {reported : State → A → Type 0} {next : State → State} {fault : E} → TriesTo (shown_by d) (shown_by d) holds reported next (Err fault)
-  busy_tries = record {
-    ok = λ clean s at its. tt;
-    err = λ is_open s at. at;
+  pub busy_tries : {A E : Type 0} {holds : State → Type 0} {reported : State → A → Type 0} {next : State → State} (r : Result A E) → IsErr r → TriesTo (shown_by d) (shown_by d) holds reported next r
+  busy_tries r failed = record {
+    ok = λ clean s at its. IfOk-from_err r _ failed;
+    err = λ is_open s at. if_failed r at;
     honest = λ clean. clean;
     was_open = λ is_open. is_open;
     stop = λ clean s at its. absurd (represents_not at.tables at.represents);
   }
 
-  pub busy_transacts : {A E : Type 0} {Makes : Tables → A → Tables → Type 0} {fault : E} → Transacts d d (Err fault) Makes
-  busy_transacts = record {
-    ok = λ clean t at. tt;
-    err = λ is_open t at. at;
+  pub busy_transacts : {A E : Type 0} {Makes : Tables → A → Tables → Type 0} (r : Result A E) → IsErr r → Transacts d d r Makes
+  busy_transacts r failed = record {
+    ok = λ clean t at. IfOk-from_err r _ failed;
+    err = λ is_open t at. if_failed r at;
     honest = λ clean. clean;
     was_open = λ is_open. is_open;
     stop = λ clean t at. absurd (represents_not t at);
   }
 
-  pub busy_fails : {A E : Type 0} {fault : E} → FailsIfShut {A = A} d d (Err fault)
-  busy_fails = record { opened = λ clean. tt; left = λ clean shut trees h. h }
+  pub busy_fails : {A E : Type 0} (r : Result A E) → IsErr r → FailsIfShut d d r
+  busy_fails r failed = record { opened = λ clean. IfOk-from_err r (λ _. _) failed; left = λ clean shut trees h. h }
 
   pub busy_sends : {A : Type 0} (taken : Option (List ℕ)) (failures file : ℕ) → SendsFile {A = A} d d taken taken failures failures file (Err StoreFails)
   busy_sends taken failures file = record {
     streams = ([], Appends-nil taken, λ clean s at. inl refl);
-    does = busy_tries;
+    does = busy_tries (Err StoreFails) refl;
     count = record { kept = tt; cause = λ is. cc is; others = λ other. refl };
-    stays = record { shut = busy_fails; back = tt; opened = λ clean. tt };
+    stays = record { shut = busy_fails (Err StoreFails) refl; back = tt; opened = λ clean. tt };
   }
 
 -- ---- tables that stay

@@ -1,16 +1,13 @@
 -- What a store caches of the state for which it stands.
-use Rattle.std.specs.Prelude.{◌≡◌, ◌≤◌, ℕ, length, Option, Some, IfSome, IsTrue, Result, IfOk}
+use Rattle.std.specs.Prelude.{◌≡◌, ◌≤◌, ℕ, length, Option, Some, IsTrue, Result, IfOk}
 use Rattle.sqlite.specs.State as db
 use Rattle.dep_types.specs.State.{State, File, file_at}
-use Rattle.dep_types.specs.declared.store_fault.StoreFault.{StoreFault}
 use Rattle.dep_types.specs.declared.config.Config.{Config}
 use Rattle.dep_answers.specs.declared.performed.StoredFile.{StoredFile}
-use Rattle.dep_requests.specs.declared.performing.Done.{Done}
-use Rattle.dep_decisions.specs.declared.operation.Operation.{Operation}
 use Rattle.dep_requests.specs.declared.caching.Cache.{Cache}
 use Rattle.dep_schema.specs.States.{Represents}
 use Rattle.dep_schema.specs.Transactions.{FindsOpen}
-use Rattle.dep_requests.specs.Caching.{IsCacheOf, is_plain_read}
+use Rattle.dep_requests.specs.Caching.{IsCacheOf}
 
 -- what is cached is that of each state for which the database stands
 abbrev pub IsCached : db.State → Option Cache → Type 0
@@ -49,8 +46,3 @@ IsOfSize s it = HasSize s it.object it.file it.size
 abbrev pub IsKnownFile : db.State → Option StoredFile → Type 0
 IsKnownFile d known = (it : StoredFile) → known ≡ Some it
     → ((s : State) → Represents d s → IsOfSize s it) × (db.HasCleanDisk d → IsTrue d.is_open)
-
--- the file whose content the reply to such a request has is there
-abbrev pub ShowsFile : (old new : db.State) → Result Done StoreFault → Operation → Type 0
-ShowsFile old new result op = IsTrue (is_plain_read op) → db.HasCleanDisk new → (s : State)
-    → Represents old s → IfOk result (λ done. IfSome done.performed.stored (IsOfSize s))

@@ -10,15 +10,10 @@ use Rattle.dep_types.specs.declared.store_fault.StoreFault.TheVariants.{Store}
 use Rattle.dep_types.specs.declared.stream_fault.StreamFault.{StreamFault}
 use Rattle.dep_types.specs.declared.config.Config.{Config}
 use Rattle.dep_tables.specs.Faults.{fault_for}
-use Rattle.dep_decisions.specs.declared.operation.Operation.{Operation}
-use Rattle.dep_staging.specs.declared.running.RunningHashes.{RunningHashes}
-use Rattle.dep_requests.specs.declared.performing.Done.{Done}
-use Rattle.dep_schema.specs.Performing.{KeepsRunning, StepsOver, ReportsChanges, IsBackUnchanged}
-use Rattle.dep_schema.specs.Transactions.{IsBackAt, IsRestored, Transacts}
+use Rattle.dep_schema.specs.Transactions.{IsBackAt, IsRestored}
 use Rattle.dep_hub.specs.Archives.{Ticks, Streams, KeepsState, CountsFailures}
 use Rattle.dep_hub.specs.Shut.{ReportsOpen}
 use Rattle.dep_store.specs.Archive.{shown_by}
-use Rattle.dep_store.specs.Caching.{ShowsFile}
 
 -- where the store was shut, and the disk has told no lie that was taken as true, a crash leaves
 -- nothing that it might not have left before
@@ -50,16 +45,6 @@ pub record SendsFile {A : Type 0} (old new : db.State) (taken takes : Option (Li
   pub does : KeepsState (shown_by old) (shown_by new) result
   pub count : CountsFailures failures failures_after result
   pub stays : StaysOpen old new result
-
--- so a request fails, which is else one transaction, given back where nothing was changed, and shows a file that is there
-pub record PerformsIfOpen (old new : db.State) (result : Result Done StoreFault) (config : Config)
-    (op : Operation) (running later : RunningHashes) : Type 0 where
-  pub shut : FailsIfShut old new result
-  pub transacts : Transacts old new result (StepsOver config op running)
-  pub changes : ReportsChanges old new result config op running
-  pub hashed : KeepsRunning old new running later
-  pub back : IsBackUnchanged old new result
-  pub shows : ShowsFile old new result op
 
 -- Why it isn't known whether a store is open: a transaction is under way; or the store failed, by this fault, and not
 -- because it was shut before: memory was refused, or the disk failed once more.

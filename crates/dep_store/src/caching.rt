@@ -7,11 +7,27 @@ ghost use Rattle.dep_store.specs.Caching.{LoadsCache};
 ghost use Rattle.dep_store.specs.Shut.{AsksIfOpen};
 
 use crate::read_transaction::{ReadTransaction, read_if_open};
+use dep_answers::StoredFile;
 use dep_requests::{Cache, read_still};
 use dep_schema::probe;
 use dep_tables::{Statements, fault_of};
 use dep_types::{Config, StoreFault};
 use sqlite::{Alter, Connection, Error, ErrorCode};
+
+/// What a store knows without a look at its tables. A call that may change them begins with nothing known.
+#[derive(Clone, Copy)]
+pub(crate) struct Known {
+    pub(crate) cache: Option<Cache>,
+    /// The file whose content the last reply has.
+    pub(crate) shown: Option<StoredFile>,
+}
+
+impl Known {
+    pub(crate) const NOTHING: Known = Known {
+        cache: None,
+        shown: None,
+    };
+}
 
 /// What the error of a statement means: that the store was shut, or why that isn't known.
 fn reported_by(error: Error) -> Result<bool, StoreFault>

@@ -10,7 +10,6 @@ mod read_transaction;
 mod reading;
 mod sending;
 mod sending_on;
-mod showing;
 mod source;
 mod store;
 mod tasks;

@@ -17,7 +17,6 @@ use dep_tables::Statements;
 use dep_types::{Config, FileRow, StoreFault};
 use sqlite::{Alter, Connection};
 use std::alloc::Global;
-use std::mem;
 
 /// What is read in a transaction, whatever runs the statements.
 pub(crate) trait ReadTransaction {
@@ -79,11 +78,11 @@ impl ReadTransaction for RunningHashes {
 
 /// A part of the uploads that references in a request name is hashed. Returns whether more may be left.
 #[derive(Drop)]
-struct NamedHashes<'a> {
-    alloc: Global,
-    running: RunningHashes,
-    config: &'a Config,
-    operation: &'a Operation<'a>,
+pub(crate) struct NamedHashes<'a> {
+    pub(crate) alloc: Global,
+    pub(crate) running: RunningHashes,
+    pub(crate) config: &'a Config,
+    pub(crate) operation: &'a Operation<'a>,
 }
 
 impl ReadTransaction for NamedHashes<'_> {
@@ -102,33 +101,6 @@ impl ReadTransaction for NamedHashes<'_> {
             self.operation,
         )
     }
-}
-
-/// Hashes a part of the uploads that references in a request name, and returns whether more may be left.
-pub(crate) fn hash_named_by<S: Alter>(
-    connection: &mut Connection<S>,
-    alloc: Global,
-    running: &mut RunningHashes,
-    config: &Config,
-    operation: &Operation<'_>,
-) -> Result<bool, StoreFault>
-    requires settled { (state S.Store connection.old).in_transaction ≡ false }
-    ensures { GivesBack (state S.Store connection.old) (state S.Store connection.new)
-        (λ s. AreRunning s running.old → AreRunning s running.new) }
-{
-    let mut asked = NamedHashes {
-        alloc,
-        running: mem::replace(running, RunningHashes::new(alloc)),
-        config,
-        operation,
-    };
-    let more = read_in_transaction(connection, &mut asked);
-    let NamedHashes {
-        running: hashed,
-        ..
-    } = asked;
-    drop(mem::replace(running, hashed));
-    more
 }
 
 /// The row of a file, if there is one.

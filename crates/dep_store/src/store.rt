@@ -23,35 +23,33 @@ ghost use Rattle.dep_store.specs.SendingOn.{BeginsIfOpen, SendsOn};
 ghost use Rattle.dep_store.specs.Shut.{FailsIfShut, FailsToReport, SendsFile, TicksIfOpen};
 ghost use Rattle.dep_store.specs.Staying.{TablesStay, ReportsTables, LeavesOnly, HashesOn};
 
-use crate::caching::{look, report_open};
+use crate::caching::{Known, look, report_open};
 use crate::migrating::migrate;
-use crate::read_transaction::{hash_named_by, read_in_transaction};
+use crate::read_transaction::{NamedHashes, read_in_transaction};
 use crate::reading::{NextObject, ViewObject};
 use crate::sending::stream_known;
 use crate::sending_on::{SendingPlace, find_size, send_on};
-use crate::showing::perform_if_open;
-use crate::tasks::transact;
+use crate::tasks::{check_settled, transact};
 use crate::ticking::{MoveClock, WriteClock};
 use dep_answers::{Performed, Service, StoredFile};
 use dep_decisions::Operation;
 use dep_files::{Audit, Watch, audit_files};
 use dep_moment::Moment;
-use dep_requests::{Cache, cached, clock_still, file_shown, show_service, still_known};
-use dep_schema::{OpenFault, Schema, check_open};
+use dep_requests::{cached, clock_still, file_shown, show_service, still_known};
+use dep_schema::{OpenFault, Schema, check_open, perform_request};
 use dep_staging::RunningHashes;
 use dep_types::{Config, ObjectView, Outlet, StoreFault, StreamFault};
 use sqlite::{Alter, Connection};
 use std::alloc::Global;
 use std::marker::Model;
+use std::mem;
 
 /// The archive in the tables of a database. Contracts see it as the connection to them.
 #[derive(Drop)]
 pub struct Store<S: Alter> {
     alloc: Global,
     connection: Connection<S>,
-    cache: Option<Cache>,
-    /// The file whose content the last reply has.
-    shown: Option<StoredFile>,
+    known: Known,
 }
 
 impl<S: Alter> Model for Store<S> {
@@ -64,9 +62,9 @@ impl<S: Alter> Model for Store<S> {
 
     ghost view = { λ s. s.connection };
 
-    ghost invariant = { λ s. IsCached (state S.Store s.connection) s.cache
-        × IsOfOpen (state S.Store s.connection) s.cache
-        × IsKnownFile (state S.Store s.connection) s.shown };
+    ghost invariant = { λ s. IsCached (state S.Store s.connection) s.known.cache
+        × IsOfOpen (state S.Store s.connection) s.known.cache
+        × IsKnownFile (state S.Store s.connection) s.known.shown };
 }
 
 impl<S: Alter> Store<S> {
@@ -124,8 +122,7 @@ impl<S: Alter> Store<S> {
         Store {
             alloc,
             connection,
-            cache: None,
-            shown: None,
+            known: Known::NOTHING,
         }
     }
 
@@ -136,20 +133,17 @@ impl<S: Alter> Store<S> {
         ensures { TicksIfOpen (state S.Store self.old) (state S.Store self.new)
             config.now moment result }
     {
-        if !self.connection.is_autocommit() {
-            return Err(StoreFault::Store);
-        }
+        check_settled(&self.connection)?;
         let secs = moment.secs();
-        if let Some(clock) = clock_still(&self.cache, config, secs) {
+        if let Some(clock) = clock_still(&self.known.cache, config, secs) {
             let shown = Moment::new(clock);
             return Ok(shown);
         }
-        self.cache = None;
-        self.shown = None;
+        self.known = Known::NOTHING;
         let found = look(&mut self.connection, config, secs)?;
         match found {
             Some(it) => {
-                self.cache = Some(it);
+                self.known.cache = Some(it);
                 let reported = Moment::new(it.clock);
                 Ok(reported)
             }
@@ -184,24 +178,22 @@ impl<S: Alter> Store<S> {
         // On a store that was shut it fails, and a crash leaves what it could leave before.
         ensures shut { FailsIfShut (state S.Store self.old) (state S.Store self.new) result }
     {
-        if !self.connection.is_autocommit() {
-            return Err(StoreFault::Store);
-        }
-        if let Some(it) = cached(&self.cache, operation) {
+        check_settled(&self.connection)?;
+        if let Some(it) = cached(&self.known.cache, operation) {
             return show_service(self.alloc, service, operation, &it);
         }
-        let cache = self.cache;
-        self.cache = None;
-        self.shown = None;
-        let done = perform_if_open(
+        let known = self.known;
+        self.known = Known::NOTHING;
+        check_open(&mut self.connection)?;
+        let done = perform_request(
             &mut self.connection,
             self.alloc,
             running,
             service,
             operation,
         )?;
-        self.cache = still_known(cache, done.has_changes);
-        self.shown = file_shown(operation, &done);
+        self.known.cache = still_known(known.cache, done.has_changes);
+        self.known.shown = file_shown(operation, &done);
         Ok(done.performed)
     }
 
@@ -211,11 +203,8 @@ impl<S: Alter> Store<S> {
         ensures { HashesOn (state S.Store self.old) (state S.Store self.new)
             running.old running.new }
     {
-        if !self.connection.is_autocommit() {
-            return Err(StoreFault::Store);
-        }
-        self.cache = None;
-        self.shown = None;
+        check_settled(&self.connection)?;
+        self.known = Known::NOTHING;
         read_in_transaction(&mut self.connection, running)
     }
 
@@ -231,12 +220,21 @@ impl<S: Alter> Store<S> {
         ensures { HashesOn (state S.Store self.old) (state S.Store self.new)
             running.old running.new }
     {
-        if !self.connection.is_autocommit() {
-            return Err(StoreFault::Store);
-        }
-        self.cache = None;
-        self.shown = None;
-        hash_named_by(&mut self.connection, self.alloc, running, config, operation)
+        check_settled(&self.connection)?;
+        self.known = Known::NOTHING;
+        let mut asked = NamedHashes {
+            alloc: self.alloc,
+            running: mem::replace(running, RunningHashes::new(self.alloc)),
+            config,
+            operation,
+        };
+        let more = read_in_transaction(&mut self.connection, &mut asked);
+        let NamedHashes {
+            running: hashed,
+            ..
+        } = asked;
+        drop(mem::replace(running, hashed));
+        more
     }
 
     /// Commits the clock as it is. Before a commit SQLite copies a log of 1,000 pages and more into the file, so behind
@@ -244,13 +242,11 @@ impl<S: Alter> Store<S> {
     pub fn copy_log(&mut self) -> Result<(), StoreFault>
         ensures { CopiesLog (state S.Store self.old) (state S.Store self.new) result }
     {
-        if !self.connection.is_autocommit() {
-            return Err(StoreFault::Store);
-        }
-        self.cache = None;
-        self.shown = None;
-        check_open(&mut self.connection)?;
-        transact(&mut self.connection, &WriteClock)
+        check_settled(&self.connection)?;
+        self.known = Known::NOTHING;
+        let connection = &mut self.connection;
+        check_open(connection)?;
+        transact(connection, &WriteClock)
     }
 
     /// Sends the content of the file of this number, one block at a time.
@@ -260,15 +256,11 @@ impl<S: Alter> Store<S> {
             (O.taken out.old) (O.taken out.new) (O.failures out.old) (O.failures out.new)
             file result }
     {
-        if !self.connection.is_autocommit() {
-            return Err(StreamFault::Store);
-        }
-        let cache = self.cache;
-        let shown = self.shown;
-        self.cache = None;
-        self.shown = None;
-        stream_known(&mut self.connection, shown, file, out)?;
-        self.cache = cache;
+        check_settled(&self.connection)?;
+        let known = self.known;
+        self.known = Known::NOTHING;
+        stream_known(&mut self.connection, known.shown, file, out)?;
+        self.known.cache = known.cache;
         Ok(())
     }
 
@@ -278,16 +270,11 @@ impl<S: Alter> Store<S> {
         // On a store that was shut it fails, and a crash leaves what it could leave before.
         ensures { BeginsIfOpen (state S.Store self.old) (state S.Store self.new) it result }
     {
-        if !self.connection.is_autocommit() {
-            return Err(StoreFault::Store);
-        }
-        let cache = self.cache;
-        let shown = self.shown;
-        self.cache = None;
-        self.shown = None;
-        find_size(&mut self.connection, shown, it)?;
-        self.cache = cache;
-        self.shown = shown;
+        check_settled(&self.connection)?;
+        let known = self.known;
+        self.known = Known::NOTHING;
+        find_size(&mut self.connection, known.shown, it)?;
+        self.known = known;
         Ok(())
     }
 
@@ -304,17 +291,12 @@ impl<S: Alter> Store<S> {
             (O.taken out.old) (O.taken out.new) (O.failures out.old) (O.failures out.new)
             it start result }
     {
-        if !self.connection.is_autocommit() {
-            return Err(StreamFault::Store);
-        }
-        let cache = self.cache;
-        let shown = self.shown;
-        self.cache = None;
-        self.shown = None;
+        check_settled(&self.connection)?;
+        let known = self.known;
+        self.known = Known::NOTHING;
         let place = SendingPlace { it, start };
-        let next = send_on(&mut self.connection, self.alloc, shown, place, out)?;
-        self.cache = cache;
-        self.shown = shown;
+        let next = send_on(&mut self.connection, self.alloc, known.shown, place, out)?;
+        self.known = known;
         Ok(next)
     }
 
@@ -326,8 +308,7 @@ impl<S: Alter> Store<S> {
         ensures opened { HasCleanDisk (state S.Store self.new)
             → OnOk result (IsTrue (state S.Store self.old).is_open) }
     {
-        self.cache = None;
-        self.shown = None;
+        self.known = Known::NOTHING;
         let task = ViewObject {
             alloc: self.alloc,
             object,
@@ -345,8 +326,7 @@ impl<S: Alter> Store<S> {
         ensures opened { HasCleanDisk (state S.Store self.new)
             → OnOk result (IsTrue (state S.Store self.old).is_open) }
     {
-        self.cache = None;
-        self.shown = None;
+        self.known = Known::NOTHING;
         transact(&mut self.connection, &NextObject { after })
     }
 
@@ -358,8 +338,7 @@ impl<S: Alter> Store<S> {
         // On a store that was shut it fails, and a crash leaves what it could leave before.
         ensures shut { FailsIfShut (state S.Store self.old) (state S.Store self.new) result }
     {
-        self.cache = None;
-        self.shown = None;
+        self.known = Known::NOTHING;
         audit_files(&mut self.connection, self.alloc, object, watch)
     }
 
@@ -373,13 +352,11 @@ impl<S: Alter> Store<S> {
         ensures rests { KeepsAll (condition_of S.Store self.old) (condition_of S.Store self.new) }
         ensures left { LeavesOnly (state S.Store self.old) (state S.Store self.new) }
     {
-        match self.cache {
+        match self.known.cache {
             Some(_) => Ok(true),
             None => {
-                if !self.connection.is_autocommit() {
-                    return Err(StoreFault::Store);
-                }
-                self.shown = None;
+                check_settled(&self.connection)?;
+                self.known = Known::NOTHING;
                 report_open(&mut self.connection)
             }
         }

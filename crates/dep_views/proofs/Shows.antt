@@ -20,6 +20,7 @@ use Rattle.dep_answers.specs.declared.read_set.Shown.TheVariants as shown
 use Rattle.dep_staging.specs.Found.{IsFound, found_row, gone_row}
 use Rattle.dep_staging.specs.declared.loading.FoundRow.{FoundRow}
 use Rattle.dep_staging.specs.declared.loading.FoundRow.TheVariants as by_row
+use Rattle.dep_staging.specs.declared.loading.FoundUpload.{FoundUpload}
 use Rattle.dep_staging.specs.declared.loading.FoundUpload.TheVariants as found
 use Rattle.dep_staging.specs.declared.loading.StagedUpload.{StagedUpload}
 use Rattle.dep_row_maps.specs.Clauses.{ReadsMaps}
@@ -27,7 +28,7 @@ use Rattle.dep_row_maps.specs.TablesAre.{files_at}
 use Rattle.dep_objects.specs.Objects.{HasRow}
 use Rattle.dep_objects.proofs.Puts.{has_row, its_number}
 use Rattle.dep_tables.specs.Clauses.{ReadsWithin}
-use Rattle.dep_tables.proofs.Chains.{clean_before, may_read, reads_then, still_ours}
+use Rattle.dep_tables.proofs.Chains.{clean_before, may_read, reads_ok, reads_then, still_ours}
 use Rattle.dep_tables.proofs.Results.{ok_then}
 use Rattle.dep_views.proofs.Chains.{still_seen}
 use Rattle.dep_views.proofs.Found.{numbers_are}
@@ -60,6 +61,17 @@ module _ (s : State) (u : ℕ) where
       let row = h.1.row in
       let keys = are ∙ ap (map (λ segment. segment.number)) h.1.received ∙ numbers_are u (finmap.entries (h.0).segments) in
       (λ i. shown.Upload (row i) (keys i)) ∙ sym (at (Some h.0) h.1.there)
+
+-- nothing is shown of an upload that was found to be gone
+pub gone_shown : {T L : Type 0} {lenders : T → L} {state : T → db.State} {old new : T} {staged : FoundUpload} (u : ℕ) (gone : FoundRow) → ((its : UploadRow) → by_row.Live its ≡ gone → ⊥)
+    → ((s : State) → IsFound s u staged → found_row s u ≡ gone) → ReadsMaps lenders state old new (Ok staged) (λ s it. IsFound s u it)
+    → ReadsShown lenders state old new (Ok shown.Nothing) (read_set.Upload u) (λ _. ⊤)
+gone_shown u gone other means reads = record {
+  map = record {
+    found = λ clean inside ours s are sound reported. no_upload_shown s u gone other (means s (reads.map clean ours s are));
+    keeps = reads_ok reads.keeps;
+  };
+}
 
 -- ---- an object with its files
 

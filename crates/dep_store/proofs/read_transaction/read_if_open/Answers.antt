@@ -1,6 +1,6 @@
 use Rattle.std.proofs.lemmas.Result.{IfOk-from_err}
 use Rattle.sqlite.specs.Held.{state}
-use Rattle.dep_schema.proofs.Transacting.{back_then, none_then}
+use Rattle.dep_store.proofs.SentOn.{restored_then}
 use Rattle.dep_store.proofs.read_transaction.read_if_open.Goals as goal
 
 -- it could not be read
@@ -21,13 +21,11 @@ returns-in_err-check_open g c =
     let new = state g.S.Store c.check_open.new.connection in
     let result = c.from_residual-in_err-check_open.result in
     let is_err = c.from_residual-in_err-check_open.ensures.0 in
-    let read = c.read_in_transaction.ensures.restored in
-    let looked = c.check_open.ensures.restored in
     record {
       reports = IfOk-from_err result _ is_err;
       finds = record {
         opened = λ clean. IfOk-from_err result _ is_err;
-        restored = record { back = back_then old mid new read.back looked.back; mode = looked.mode; survives = none_then old mid new read.survives looked.survives };
+        restored = restored_then old mid new c.read_in_transaction.ensures.restored c.check_open.ensures.restored;
       };
     }
 
@@ -37,12 +35,10 @@ returns g c =
     let old = state g.S.Store c.args.connection.now in
     let mid = state g.S.Store c.read_in_transaction.new.connection in
     let new = state g.S.Store c.check_open.new.connection in
-    let read = c.read_in_transaction.ensures.restored in
-    let looked = c.check_open.ensures.restored in
     record {
-      reports = λ clean s represents. c.in_ok-answer.ensures.reports (looked.back (c.in_ok-check_open.ensures.opened clean)).0 s represents;
+      reports = λ clean s represents. c.in_ok-answer.ensures.reports (c.check_open.ensures.restored.back (c.in_ok-check_open.ensures.opened clean)).0 s represents;
       finds = record {
         opened = c.in_ok-check_open.ensures.opened;
-        restored = record { back = back_then old mid new read.back looked.back; mode = looked.mode; survives = none_then old mid new read.survives looked.survives };
+        restored = restored_then old mid new c.read_in_transaction.ensures.restored c.check_open.ensures.restored;
       };
     }

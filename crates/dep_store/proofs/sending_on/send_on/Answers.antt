@@ -5,9 +5,10 @@ use Rattle.sqlite.specs.Held.{state}
 use Rattle.dep_types.specs.State.{State}
 use Rattle.dep_schema.specs.States.{Represents}
 use Rattle.dep_staging.specs.NextBytes.{IsNextIn}
-use Rattle.dep_store.proofs.SentOn.{Comes, all_sent, keeps_open, none_taken, nothing_sent, restored_then, stays_open, streams_on, takes_few}
-use Rattle.dep_store.proofs.ShutLemmas.{fails_staying, state_back}
-use Rattle.dep_store.proofs.Tries.{counts, failed_keeping, honest_back}
+use Rattle.dep_store.proofs.SentOn.{Comes, all_sent, keeps_open, none_taken, restored_then, stays_open, streams_on, takes_few}
+use Rattle.dep_store.proofs.Begun.{sends_not}
+use Rattle.dep_store.proofs.ShutLemmas.{state_back}
+use Rattle.dep_store.proofs.Tries.{counts, honest_back}
 use Rattle.dep_store.proofs.sending_on.send_on.Goals as goal
 
 -- the file was not found
@@ -15,17 +16,9 @@ pub returns-in_err-size : goal.returns-in_err-size
 returns-in_err-size g c =
     let old = state g.S.Store c.args.connection.now in
     let new = state g.S.Store c.find_size.new.connection in
-    let result = c.from_residual.result in
-    let failed = c.from_residual.ensures.0 in
-    let restored = c.find_size.ensures.finds.restored in
     record {
-      sends = record {
-        streams = ([], Appends-nil _, λ clean s represents. nothing_sent s c.args.place.it c.args.place.start result failed);
-        few = none_taken _;
-        does = failed_keeping old new result failed (λ is_open trees h. g.met.S.Store.settled c.args.connection.now.store trees is_open h) restored.back restored.survives;
-        count = search rules;
-        stays = fails_staying old new result failed restored;
-      };
+      sends = sends_not old new c.args.place.it (λ is_open trees h. g.met.S.Store.settled c.args.connection.now.store trees is_open h) _ _ c.args.place.start
+          c.from_residual.result c.from_residual.ensures.0 (search rules) c.find_size.ensures.finds.restored;
     }
 
 -- all of it was sent before
@@ -50,17 +43,10 @@ returns-in_err-bytes g c =
     let old = state g.S.Store c.args.connection.now in
     let mid = state g.S.Store c.find_size.new.connection in
     let new = state g.S.Store c.read_if_open.new.connection in
-    let result = c.from_residual-in_err-bytes.result in
-    let failed = c.from_residual-in_err-bytes.ensures.0 in
     let restored = restored_then old mid new c.find_size.ensures.finds.restored c.read_if_open.ensures.finds.restored in
     record {
-      sends = record {
-        streams = ([], Appends-nil _, λ clean s represents. nothing_sent s c.args.place.it c.args.place.start result failed);
-        few = none_taken _;
-        does = failed_keeping old new result failed (λ is_open trees h. g.met.S.Store.settled c.args.connection.now.store trees is_open h) restored.back restored.survives;
-        count = search rules;
-        stays = fails_staying old new result failed restored;
-      };
+      sends = sends_not old new c.args.place.it (λ is_open trees h. g.met.S.Store.settled c.args.connection.now.store trees is_open h) _ _ c.args.place.start
+          c.from_residual-in_err-bytes.result c.from_residual-in_err-bytes.ensures.0 (search rules) restored;
     }
 
 -- they were, and are sent

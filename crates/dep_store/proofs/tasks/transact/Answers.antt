@@ -7,14 +7,13 @@ use Rattle.dep_schema.proofs.Asking.{lent_connection, lent_name}
 use Rattle.dep_schema.proofs.Transacting.{gave_up, committed, uncommitted, began_open, nothing_reported, works_within, still_inside}
 use Rattle.dep_files.proofs.Reported.{passed_on}
 use Rattle.dep_store.proofs.Carrying.{made_inside}
-use Rattle.dep_store.proofs.ShutLemmas.{under_way}
 use Rattle.dep_store.proofs.Tries.{busy_transacts}
 use Rattle.dep_store.proofs.tasks.transact.Goals as goal
 
-pub returns-then-not-is_autocommit : goal.returns-then-not-is_autocommit
-returns-then-not-is_autocommit g c =
-    let d = state g.S.Store c.args.connection.now in
-    record { transacts = busy_transacts d (under_way c.args.connection.now.in_transaction c.if-not-is_autocommit.ensures.value); opened = λ clean. tt }
+pub returns-in_err-check_settled : goal.returns-in_err-check_settled
+returns-in_err-check_settled g c =
+    let failed = c.from_residual.ensures.0 in
+    record { transacts = busy_transacts (state g.S.Store c.args.connection.now) c.in_err-check_settled.ensures.0 _ failed; opened = λ clean. nothing_reported _ _ failed }
 
 pub returns-in_err-answer : goal.returns-in_err-answer
 returns-in_err-answer g c =
@@ -27,8 +26,8 @@ returns-in_err-answer g c =
     let work = works_within {inside = c.run.new.tx} g.S.Store old new stays begun.begun left (λ is_open trees h. g.met.S.Store.settled old.store trees is_open h)
     (clean_if_open (g.S.Store.view new.store) (g.met.S.Store.shut_if_dirty new.store)) in
     let same : new ≡ c.connection-1.given.0 = sym (c.connection-1.given.1 (lent_connection g.S.Store {new = c.run.new.tx} stays left begun.same_reference)) in
-    let result = c.from_residual.result in
-    let is_err = c.from_residual.ensures.0 in
+    let result = c.from_residual-in_err-answer.result in
+    let is_err = c.from_residual-in_err-answer.ensures.0 in
     record {
       transacts = gave_up g.S.Store old inside new _ result is_err work c.drop-tx.ensures.undone c.drop-tx.ensures.survives _ same;
       opened = λ clean. nothing_reported result _ is_err;

@@ -3,8 +3,8 @@ use Rattle.std.proofs.Common.{Ok, Some, true, ◌++◌, [], ◌∷◌, is_err, �
 use Rattle.std.proofs.lemmas.List.{nil_from_length}
 use Rattle.dep_files.proofs.Results.{pushed}
 use Rattle.dep_operations.specs.declared.view.UploadView.{UploadView}
-use Rattle.dep_tables.proofs.Chains.{clean_before, may_err, may_ok, may_put, may_read, may_then, still_ours}
-use Rattle.dep_views.proofs.Chains.{found_behind, still_seen}
+use Rattle.dep_tables.proofs.Chains.{clean_before, may_err, may_ok, may_put, may_read, may_then}
+use Rattle.dep_views.proofs.Chains.{finds_behind, found_behind}
 use Rattle.dep_views.proofs.Lacking.{IsLeft, left_at_first, left_lacking, left_missing, left_more, missing_reported, none_left, segments_reported}
 use Rattle.dep_views.proofs.named.load_named.Goals as goal
 
@@ -13,15 +13,12 @@ loop-upload-init g c = (may_put g.T.Statements.lenders g.T.Statements.state c.ar
 
 pub loop-upload-preserved : goal.loop-upload-preserved
 loop-upload-preserved g c =
-    let old = g.T.Statements.state c.args.tx.now in
-    let mid = g.T.Statements.state c.loop-upload.tx in
     let inv = c.loop-upload.invariant in (
       may_ok (may_then {r = Ok c.in_ok-state.state} inv.0 (may_read c.in_ok-state.ensures.map.keeps)),
       λ is_open clean inside ours s are sound running.
           let before = clean_before c.in_ok-state.ensures.map.keeps.stays clean in
-          let same = inv.0.same is_open before ours in
           let so_far = subst (IsLeft s c.args.uploads.now c.loop-upload.views.items) c.in-Some.ensures.cases.0 (inv.1 is_open before inside ours s are sound running) in
-          let it = c.in_ok-state.ensures.map.found clean (inv.0.stays.inside before inside) (still_ours old mid same ours) s (still_seen old mid s same are) sound running in
+          let it = finds_behind inv.0 c.in_ok-state.ensures.map is_open clean inside ours s are sound running in
           let u = c.in-Some.upload.now in
           let view : UploadView = record { upload = u; state = c.in_ok-state.state } in
           let grown = pushed c.push.result c.push.new.self.items (c.loop-upload.views.items ++ view ∷ []) c.loop-upload.views.items (ap is_err c.in_ok-push.was) c.push.ensures.items in
@@ -34,13 +31,10 @@ pub returns-in-Some-state_rule : goal.returns-in-Some-state_rule
 returns-in-Some-state_rule g c = record {
   map = record {
     found = λ clean inside ours s are is_open sound running.
-        let old = g.T.Statements.state c.args.tx.now in
-        let mid = g.T.Statements.state c.loop-upload.tx in
         let inv = c.loop-upload.invariant in
         let before = clean_before c.in_ok-state.ensures.map.keeps.stays clean in
-        let same = inv.0.same is_open before ours in
         let so_far = subst (IsLeft s c.args.uploads.now c.loop-upload.views.items) c.in-Some.ensures.cases.0 (inv.1 is_open before inside ours s are sound running) in
-        let it = c.in_ok-state.ensures.map.found clean (inv.0.stays.inside before inside) (still_ours old mid same ours) s (still_seen old mid s same are) sound running in
+        let it = finds_behind inv.0 c.in_ok-state.ensures.map is_open clean inside ours s are sound running in
         left_missing s c.args.uploads.now c.loop-upload.views.items c.in-Some.upload.now c.in-Some.behind.now so_far c.in-Some-state_rule.refusal
         (missing_reported s c.in-Some.upload.now true c.in_ok-state.state _ c.state_rule.ensures it ∙ c.in-Some-state_rule.is);
     keeps = may_ok (may_then {r = Ok c.in_ok-state.state} c.loop-upload.invariant.0 (may_read c.in_ok-state.ensures.map.keeps));
@@ -51,17 +45,14 @@ pub returns-in-Some-segments_rule : goal.returns-in-Some-segments_rule
 returns-in-Some-segments_rule g c = record {
   map = record {
     found = λ clean inside ours s are is_open sound running.
-        let old = g.T.Statements.state c.args.tx.now in
-        let mid = g.T.Statements.state c.loop-upload.tx in
         let inv = c.loop-upload.invariant in
         let u = c.in-Some.upload.now in
         let reads = may_ok (may_then {r = Ok c.in_ok-state.state} inv.0 (may_read c.in_ok-state.ensures.map.keeps)) in
         let clean_two = clean_before c.in_ok-missing.ensures.map.keeps.stays clean in
         let missing = found_behind reads c.in_ok-missing.ensures.map is_open clean inside ours s are (reads.same is_open clean_two ours).0.is_open in
         let before = clean_before c.in_ok-state.ensures.map.keeps.stays clean_two in
-        let same = inv.0.same is_open before ours in
         let so_far = subst (IsLeft s c.args.uploads.now c.loop-upload.views.items) c.in-Some.ensures.cases.0 (inv.1 is_open before inside ours s are sound running) in
-        let it = c.in_ok-state.ensures.map.found clean_two (inv.0.stays.inside before inside) (still_ours old mid same ours) s (still_seen old mid s same are) sound running in
+        let it = finds_behind inv.0 c.in_ok-state.ensures.map is_open clean_two inside ours s are sound running in
         left_lacking s c.args.uploads.now c.loop-upload.views.items u c.in-Some.behind.now so_far c.in_ok-missing.missing c.in-Some-segments_rule.refusal
         (missing_reported s u true c.in_ok-state.state _ c.state_rule.ensures it ∙ c.in_default-state_rule.is)
         (segments_reported s u c.in_ok-state.state _ c.segments_rule.ensures it ∙ c.in-Some-segments_rule.is) missing

@@ -1,6 +1,5 @@
 use Rattle.sqlite.specs.Held.{state}
-use Rattle.dep_hub.specs.Archives.{Always}
-use Rattle.dep_store.proofs.KeepingLemmas.{tries_hashed, shut_hashed}
+use Rattle.dep_store.proofs.KeepingLemmas.{shut_hashed, state_hashed}
 use Rattle.dep_store.proofs.archive.HashingStoreArchive.stream.Goals as goal
 
 pub returns-clause-streams : goal.returns-clause-streams
@@ -9,10 +8,7 @@ returns-clause-streams g c =
     (sent.0, sent.1, λ clean s keeps. sent.2 clean s keeps.represents)
 
 pub returns-clause-does : goal.returns-clause-does
-returns-clause-does g c =
-    let runs = c.args.self.now.running in
-    tries_hashed (state g.S.Store c.args.self.now.store) (state g.S.Store c.stream.new.self) runs runs Always Always (λ s answer. Unit {0}) (λ s. s) c.stream.result
-    (λ s its are. tt) (λ is_open s represents are. are) (λ s are. are) c.stream.ensures.does
+returns-clause-does g c = state_hashed (state g.S.Store c.args.self.now.store) (state g.S.Store c.stream.new.self) c.args.self.now.running c.stream.result c.stream.ensures.does
 
 pub returns-clause-shut : goal.returns-clause-shut
 returns-clause-shut g c =

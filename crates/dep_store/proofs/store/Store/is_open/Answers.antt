@@ -1,11 +1,12 @@
-use Rattle.std.proofs.Common.{◌∙◌, inl, IfErr, refl, sym, subst}
+use Rattle.std.proofs.Common.{inl, IfErr, subst}
+use Rattle.std.proofs.lemmas.Result.{err_from_is_err_and}
 use Rattle.sqlite.specs.State.{HasCleanDisk}
 use Rattle.sqlite.specs.Held.{Held, state}
 use Rattle.dep_hub.specs.Archives.{KeepsAll}
 use Rattle.dep_store.specs.Archive.{shown_by}
 use Rattle.dep_store.specs.Shut.{FailsToReport}
 use Rattle.dep_store.specs.Staying.{LeavesOnly}
-use Rattle.dep_store.proofs.ShutLemmas.{under_way}
+use Rattle.dep_store.proofs.Cache.{forgotten}
 use Rattle.dep_store.proofs.Tries.{keeps_back, keeps_same, leaves_only}
 use Rattle.dep_store.proofs.store.Store.is_open.Goals as goal
 
@@ -14,13 +15,14 @@ returns-in-Some g c =
     let known = c.self.invariant.1 c.in-Some.field-0 c.in-Some.is in
     record { reported = rw c.self.view_is at known; cause = λ clean. tt; rests = keeps_same (state g.S.Store c.args.self.now); left = λ clean trees h. h }
 
-pub returns-then-not-is_autocommit : goal.returns-then-not-is_autocommit
-returns-then-not-is_autocommit g c =
-    let busy = under_way c.self.inside.connection.in_transaction c.if-not-is_autocommit.ensures.value in
-    record { reported = tt; cause = λ clean. inl (rw c.self.view_is at busy, refl); rests = keeps_same (state g.S.Store c.args.self.now); left = λ clean trees h. h }
+pub returns-in_err-check_settled-in-None : goal.returns-in_err-check_settled-in-None
+returns-in_err-check_settled-in-None g c =
+    let reported = err_from_is_err_and c.from_residual.result c.from_residual.ensures.1 in
+    let busy = c.in_err-check_settled-in-None.ensures in
+    rw (reported.1, reported.2) (record { reported = tt; cause = λ clean. inl (rw c.self.view_is at busy.0, busy.1); rests = keeps_same (state g.S.Store c.args.self.now); left = λ clean trees h. h })
 
-pub returns-else-not-is_autocommit : goal.returns-else-not-is_autocommit
-returns-else-not-is_autocommit g c =
+pub returns-in_ok-check_settled-in-None : goal.returns-in_ok-check_settled-in-None
+returns-in_ok-check_settled-in-None g c =
     let old = state g.S.Store c.self.inside.connection in
     let new = state g.S.Store c.report_open.new.connection in
     let asked = c.report_open.ensures in
@@ -33,5 +35,4 @@ returns-else-not-is_autocommit g c =
 
 pub invariant_of-self : goal.invariant_of-self
 invariant_of-self g c =
-    let none = sym c.in-None.is in
-    (λ m is. absurd (let it = none ∙ is in cc it), λ m is. absurd (let it = none ∙ is in cc it), λ it is. absurd (cc is))
+    forgotten (state g.S.Store c.report_open.new.connection)

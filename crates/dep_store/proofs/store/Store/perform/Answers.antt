@@ -16,14 +16,14 @@ use Rattle.dep_store.specs.Caching.{IsOfSize}
 use Rattle.std.proofs.lemmas.Result.{IfOk-from_err}
 use Rattle.dep_requests.specs.declared.performing.Done.{Done}
 use Rattle.dep_schema.specs.Transactions.{OverStates, Transacts, IsGivenBack}
-use Rattle.dep_schema.proofs.Transacting.{stood_before}
-use Rattle.dep_schema.proofs.Transacting.{unmoved}
+use Rattle.dep_schema.proofs.Transacting.{fails_back, stood_before, unmoved}
 use Rattle.dep_requests.specs.declared.caching.Cache.{Cache}
 use Rattle.dep_requests.proofs.CacheLemmas.{known_still}
 use Rattle.dep_store.proofs.Cache.{forgotten, service_made}
 use Rattle.dep_store.proofs.Tries.{back_as_was, busy_tries, busy_fails, tries_over}
 use Rattle.dep_store.specs.Shut.{FailsIfShut}
-use Rattle.dep_store.proofs.ShutLemmas.{under_way, was_open_then}
+use Rattle.dep_store.proofs.KnownFiles.{performs, shows_file}
+use Rattle.dep_store.proofs.ShutLemmas.{fails_still, was_open_then}
 use Rattle.dep_store.proofs.store.Store.perform.Goals as goal
 
 module _ (config : Config) (op : Operation) where
@@ -59,18 +59,43 @@ returns-in-Some g c =
       shut = rw c.self.view_is at shut;
     }
 
-pub returns-in_err-done : goal.returns-in_err-done
-returns-in_err-done g c =
-    let d = state g.S.Store c.self.inside.connection in
+-- it was shut, or the look at that failed
+pub returns-in_err-check_open : goal.returns-in_err-check_open
+returns-in_err-check_open g c =
+    let first = c.self.inside.connection in
+    let old = state g.S.Store first in
+    let new = state g.S.Store c.check_open.new.connection in
     let config = c.args.service.now in
     let op = c.args.operation.now in
-    let result = c.from_residual.result in
-    let is_err = c.from_residual.ensures.0 in
-    let did = tries_over (state g.S.Store c.args.self.now) (state g.S.Store c.perform_if_open.new.connection) _ _ _ (done_ready config op) (next config op)
-    (λ s its t p after made means. made its.0 s means its.1) (rw c.self.view_is at c.in_err-done.ensures.transacts) in
-    let shut : FailsIfShut d (state g.S.Store c.perform_if_open.new.connection) result = record {
-      opened = λ clean. IfOk-from_err result (λ _. IsTrue d.is_open) is_err;
-      left = c.in_err-done.ensures.shut.left;
+    let result = c.from_residual-in_err-check_open.result in
+    let is_err = c.from_residual-in_err-check_open.ensures.0 in
+    let restored = c.check_open.ensures.restored in
+    let back : Transacts old new result (Made config op) = fails_back old new result _ is_err (λ is_open trees h. g.met.S.Store.settled first.store trees is_open h) restored.back restored.survives in
+    let shut : FailsIfShut old new result = fails_still old new result is_err restored.survives in
+    record {
+      does = tries_over _ _ result (Made config op) _ (ready config op) (next config op) (λ s its t p after made means. made its.0 s means) (rw c.self.view_is at back);
+      unchanged = λ clean s given running nothing. IfOk-from_err result _ is_err;
+      running = λ is_open s represents are. are;
+      shut = rw c.self.view_is at shut;
+    }
+
+pub returns-in_err-done : goal.returns-in_err-done
+returns-in_err-done g c =
+    let first = c.self.inside.connection in
+    let mid = c.check_open.new.connection in
+    let new = state g.S.Store c.perform_request.new.connection in
+    let config = c.args.service.now in
+    let op = c.args.operation.now in
+    let result = c.from_residual-in_err-done.result in
+    let is_err = c.from_residual-in_err-done.ensures.0 in
+    let asked = c.in_err-done.ensures in
+    let done = performs (state g.S.Store first) (state g.S.Store mid) new config op c.args.running.now c.perform_request.new.running _ (λ is_open trees h. g.met.S.Store.settled first.store trees is_open h)
+    (clean_if_open (g.S.Store.view mid.store) (g.met.S.Store.shut_if_dirty mid.store)) c.in_ok-check_open.ensures asked.running
+    (shows_file _ _ config op _ asked.plain) asked.transacts asked.changes asked.back in
+    let did = tries_over (state g.S.Store c.args.self.now) new _ _ _ (done_ready config op) (next config op) (λ s its t p after made means. made its.0 s means its.1) (rw c.self.view_is at done.transacts) in
+    let shut : FailsIfShut (state g.S.Store first) new result = record {
+      opened = λ clean. IfOk-from_err result (λ _. IsTrue (state g.S.Store first).is_open) is_err;
+      left = done.shut.left;
     } in
     record {
       does = record {
@@ -81,50 +106,71 @@ returns-in_err-done g c =
         stop = did.stop;
       };
       unchanged = λ clean s given running nothing. IfOk-from_err result _ is_err;
-      running = rw c.self.view_is at c.in_err-done.ensures.hashed;
+      running = rw c.self.view_is at done.hashed;
       shut = rw c.self.view_is at shut;
     }
 
 pub returns : goal.returns
 returns g c =
+    let first = c.self.inside.connection in
+    let mid = c.check_open.new.connection in
+    let new = state g.S.Store c.perform_request.new.connection in
     let config = c.args.service.now in
     let op = c.args.operation.now in
-    let done = c.in_ok-done.ensures in
-    let did = tries_over (state g.S.Store c.args.self.now) (state g.S.Store c.perform_if_open.new.connection) _ _ _ (done_ready config op) (next config op)
-    (λ s its t p after made means. made its.0 s means its.1) (rw c.self.view_is at done.transacts) in
+    let asked = c.in_ok-done.ensures in
+    let done = performs (state g.S.Store first) (state g.S.Store mid) new config op c.args.running.now c.perform_request.new.running _ (λ is_open trees h. g.met.S.Store.settled first.store trees is_open h)
+    (clean_if_open (g.S.Store.view mid.store) (g.met.S.Store.shut_if_dirty mid.store)) c.in_ok-check_open.ensures asked.running
+    (shows_file _ _ config op _ asked.plain) asked.transacts asked.changes asked.back in
+    let did = tries_over (state g.S.Store c.args.self.now) new _ _ _ (done_ready config op) (next config op) (λ s its t p after made means. made its.0 s means its.1) (rw c.self.view_is at done.transacts) in
     let shut = rw c.self.view_is at done.shut in
     record {
       does = record { ok = did.ok; err = λ is_open s at. tt; honest = did.honest; was_open = did.was_open; stop = did.stop };
       unchanged = λ clean s given running nothing.
           let represents = rw (← c.self.view_is) at given in
-          subst (λ h. IsGivenBack (state g.S.Store h) (state g.S.Store c.perform_if_open.new.connection)) c.self.view_is (done.back ((done.changes clean s represents running).1 nothing));
+          subst (λ h. IsGivenBack (state g.S.Store h) new) c.self.view_is (done.back ((done.changes clean s represents running).1 nothing));
       running = rw c.self.view_is at done.hashed;
       shut = record { opened = shut.opened; left = shut.left };
     }
 
-pub returns-then-not-is_autocommit : goal.returns-then-not-is_autocommit
-returns-then-not-is_autocommit g c =
+pub returns-in_err-check_settled : goal.returns-in_err-check_settled
+returns-in_err-check_settled g c =
     let d = state g.S.Store c.args.self.now in
-    let busy : IsTrue d.in_transaction = rw c.self.view_is at (under_way c.self.inside.connection.in_transaction c.if-not-is_autocommit.ensures.value) in
-    record { does = busy_tries d busy; unchanged = λ clean s given running nothing. tt; running = λ is_open s represents are. are; shut = busy_fails d busy }
+    let busy : IsTrue d.in_transaction = rw c.self.view_is at c.in_err-check_settled.ensures.0 in
+    let failed = c.from_residual.ensures.0 in
+    record {
+      does = busy_tries d busy _ failed;
+      unchanged = λ clean s given running nothing. IfOk-from_err c.from_residual.result _ failed;
+      running = λ is_open s represents are. are;
+      shut = busy_fails d busy _ failed;
+    }
 
 pub invariant_of-self : goal.invariant_of-self
-invariant_of-self g c = forgotten (state g.S.Store c.perform_if_open.new.connection)
+invariant_of-self g c = forgotten (state g.S.Store c.check_open.new.connection)
+
+pub invariant_of-self-in_err-done : goal.invariant_of-self-in_err-done
+invariant_of-self-in_err-done g c = forgotten (state g.S.Store c.perform_request.new.connection)
 
 pub invariant_of-self-2 : goal.invariant_of-self-2
 invariant_of-self-2 g c =
-    let known = λ (m : Cache) (is : c.still_known-self-inside.result ≡ Some m). known_still c.in_ok-done.done.has_changes c.self.inside.cache m (sym c.still_known-self-inside.ensures ∙ is) in (
+    let first = c.self.inside.connection in
+    let mid = c.check_open.new.connection in
+    let asked = c.in_ok-done.ensures in
+    let op = c.args.operation.now in
+    let done = performs (state g.S.Store first) (state g.S.Store mid) (state g.S.Store c.perform_request.new.connection) c.args.service.now op c.args.running.now c.perform_request.new.running _
+    (λ is_open trees h. g.met.S.Store.settled first.store trees is_open h) (clean_if_open (g.S.Store.view mid.store) (g.met.S.Store.shut_if_dirty mid.store)) c.in_ok-check_open.ensures asked.running
+    (shows_file _ _ c.args.service.now op _ asked.plain) asked.transacts asked.changes asked.back in
+    let known = λ (m : Cache) (is : c.still_known-self-inside.result ≡ Some m). known_still c.in_ok-done.done.has_changes c.self.inside.known.cache m (sym c.still_known-self-inside.ensures ∙ is) in (
       λ m is s represents.
-          c.self.invariant.0 m (known m is).0 s (stood_before (state g.S.Store c.self.inside.connection) (state g.S.Store c.perform_if_open.new.connection) (c.in_ok-done.ensures.back (known m is).1).back (search rules) s represents),
-      λ m is clean. (c.in_ok-done.ensures.back (known m is).1).opened clean,
+          c.self.invariant.0 m (known m is).0 s (stood_before (state g.S.Store c.self.inside.connection) (state g.S.Store c.perform_request.new.connection) (done.back (known m is).1).back (search rules) s represents),
+      λ m is clean. (done.back (known m is).1).opened clean,
       λ it is.
           let shown = c.file_shown-self-inside.ensures.reported it is in
-          let given = c.in_ok-done.ensures.back shown.1 in
-          let store = c.perform_if_open.new.connection.store in (
+          let given = done.back shown.1 in
+          let store = c.perform_request.new.connection.store in (
             λ s represents.
                 let clean = clean_if_open (g.S.Store.view store) (g.met.S.Store.shut_if_dirty store) represents.represents.is_open in
-                let was = stood_before (state g.S.Store c.self.inside.connection) (state g.S.Store c.perform_if_open.new.connection) given.back (search rules) s represents in
-                subst (λ (o : Option StoredFile). IfSome o (IsOfSize s)) shown.2 (c.in_ok-done.ensures.shows shown.0 clean s was),
+                let was = stood_before (state g.S.Store c.self.inside.connection) (state g.S.Store c.perform_request.new.connection) given.back (search rules) s represents in
+                subst (λ (o : Option StoredFile). IfSome o (IsOfSize s)) shown.2 (done.shows shown.0 clean s was),
             λ clean. given.opened clean,
           ),
     )

@@ -4,7 +4,6 @@ use Rattle.sqlite.specs.Held.{state}
 use Rattle.dep_schema.proofs.Transacting.{stood_before}
 use Rattle.dep_requests.proofs.CacheLemmas.{none_is}
 use Rattle.dep_store.proofs.Cache.{forgotten}
-use Rattle.dep_store.proofs.ShutLemmas.{under_way}
 use Rattle.dep_store.proofs.Tries.{busy_sends}
 use Rattle.dep_store.proofs.store.Store.stream.Goals as goal
 
@@ -21,15 +20,16 @@ invariant_of-self-2 g c = (
 pub stream_known-requires-clause-there : goal.stream_known-requires-clause-there
 stream_known-requires-clause-there g c = c.self.invariant.2
 
-pub returns-then-not-is_autocommit : goal.returns-then-not-is_autocommit
-returns-then-not-is_autocommit g c =
+pub returns-in_err-check_settled : goal.returns-in_err-check_settled
+returns-in_err-check_settled g c =
     let d = state g.S.Store c.args.self.now in
-    let busy : IsTrue d.in_transaction = rw c.self.view_is at (under_way c.self.inside.connection.in_transaction c.if-not-is_autocommit.ensures.value) in
-    busy_sends d busy (g.O.Outlet.taken c.args.out.now) (g.O.Outlet.failures c.args.out.now) c.args.file
+    let busy : IsTrue d.in_transaction = rw c.self.view_is at c.in_err-check_settled.ensures.0 in
+    let reported = err_from_is_err_and c.from_residual.result c.from_residual.ensures.1 in
+    rw (reported.1, reported.2, c.in_err-check_settled.ensures.1) (busy_sends d busy (g.O.Outlet.taken c.args.out.now) (g.O.Outlet.failures c.args.out.now) c.args.file)
 
 pub returns-in_err-stream_known : goal.returns-in_err-stream_known
 returns-in_err-stream_known g c =
-    let reported = err_from_is_err_and c.from_residual.result c.from_residual.ensures.1 in
+    let reported = err_from_is_err_and c.from_residual-in_err-stream_known.result c.from_residual-in_err-stream_known.ensures.1 in
     rw (reported.1, reported.2) (rw c.self.view_is at c.in_err-stream_known.ensures.sends)
 
 pub returns : goal.returns

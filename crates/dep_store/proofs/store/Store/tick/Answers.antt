@@ -8,7 +8,7 @@ use Rattle.dep_schema.proofs.Transacting.{unmoved, after_back, fails_back}
 use Rattle.dep_store.specs.Shut.{FailsIfShut}
 use Rattle.dep_requests.proofs.CacheLemmas.{none_is}
 use Rattle.dep_store.proofs.Cache.{clock_made, forgotten}
-use Rattle.dep_store.proofs.ShutLemmas.{under_way, fails_still, was_open_then}
+use Rattle.dep_store.proofs.ShutLemmas.{fails_still, was_open_then}
 use Rattle.dep_store.proofs.Tries.{busy_tries, busy_fails, Clocked, ticks_over}
 use Rattle.dep_store.proofs.store.Store.tick.Goals as goal
 
@@ -35,8 +35,8 @@ returns-in_err-found g c =
     let old = state g.S.Store c.self.inside.connection in
     let new = state g.S.Store c.look.new.connection in
     let restored = c.look.ensures.finds.restored in
-    let result = c.from_residual.result in
-    let is_err = c.from_residual.ensures.0 in
+    let result = c.from_residual-in_err-found.result in
+    let is_err = c.from_residual-in_err-found.ensures.0 in
     let back : Transacts old new result (Clocked c.args.config.now c.secs-secs.result) = fails_back old new result _ is_err (λ is_open trees h. g.met.S.Store.settled c.self.inside.connection.store trees is_open h) restored.back restored.survives in
     let shut : FailsIfShut old new result = fails_still old new result is_err restored.survives in
     record {
@@ -83,11 +83,12 @@ returns-in-None g c =
 pub invariant_of-self-in-Some-found : goal.invariant_of-self-in-Some-found
 invariant_of-self-in-Some-found g c = (λ m is s represents. (c.in_ok-found.ensures.is_cache s represents m (c.in-Some-found.is ∙ is)).0, λ m is clean. c.in_ok-found.ensures.finds.opened clean, λ it is. absurd (none_is is))
 
-pub returns-then-not-is_autocommit : goal.returns-then-not-is_autocommit
-returns-then-not-is_autocommit g c =
+pub returns-in_err-check_settled : goal.returns-in_err-check_settled
+returns-in_err-check_settled g c =
     let d = state g.S.Store c.args.self.now in
-    let busy : IsTrue d.in_transaction = rw c.self.view_is at (under_way c.self.inside.connection.in_transaction c.if-not-is_autocommit.ensures.value) in
-    record { does = busy_tries d busy; shut = busy_fails d busy }
+    let busy : IsTrue d.in_transaction = rw c.self.view_is at c.in_err-check_settled.ensures.0 in
+    let failed = c.from_residual.ensures.0 in
+    record { does = busy_tries d busy _ failed; shut = busy_fails d busy _ failed }
 
 pub invariant_of-self : goal.invariant_of-self
 invariant_of-self g c = forgotten (state g.S.Store c.look.new.connection)
