@@ -1,5 +1,5 @@
 -- A deposit that is added to the object that a view tells.
-use Rattle.std.proofs.Common.{◌≡◌, ℕ, ◌||◌, Bool, List, Some, Result, refl, subst}
+use Rattle.std.proofs.Common.{◌≡◌, ℕ, ◌||◌, Bool, List, Some, Result, refl, ap, subst, ◌∙◌}
 use Rattle.sqlite.specs.State as db
 use Rattle.dep_types.specs.Rows.{object_row}
 use Rattle.dep_types.specs.State.{State, Object}
@@ -7,7 +7,7 @@ use Rattle.dep_types.specs.declared.rows.ObjectRow.{ObjectRow}
 use Rattle.dep_types.specs.declared.store_fault.StoreFault.{StoreFault}
 use Rattle.dep_tables.proofs.Results.{ok_then}
 use Rattle.dep_tables.specs.Tables.{Tables, tables_of}
-use Rattle.dep_row_maps.specs.TablesAre.{TablesAre}
+use Rattle.dep_row_maps.specs.TablesAre.{TablesAre, with_object}
 use Rattle.dep_objects.specs.Objects.{Rewrites}
 use Rattle.dep_decisions.specs.Effects.{appended, ingested_by, uploads_in, without}
 use Rattle.dep_decisions.specs.declared.decision.Deposit.{Deposit}
@@ -16,10 +16,11 @@ use Rattle.dep_decisions.specs.declared.decision.Decision.TheVariants.{Append}
 use Rattle.dep_changes.specs.declared.change.Change.{Change}
 use Rattle.dep_changes.specs.Changed.{with_deposit}
 use Rattle.dep_changes.specs.Clauses.{Appends, CarriesOut}
-use Rattle.dep_changes.specs.Reported.{ReportsObject}
+use Rattle.dep_operations.specs.declared.view.View.{View}
+use Rattle.dep_changes.specs.Reported.{ReportsNumbers, ReportsObject}
 use Rattle.dep_changes.proofs.Carried.{at_object}
 use Rattle.dep_changes.proofs.Filled.{ingested_row}
-use Rattle.dep_changes.proofs.Steps.{row_is, its_number, rewritten}
+use Rattle.dep_changes.proofs.Steps.{row_is, its_number, rewritten, row_written}
 
 -- it is the same whether the object becomes ingested before or after it
 pub ingested_after : (s : State) (content : List ℕ) (d : Deposit) (ingests : Bool) (o : Object) → appended s content d (ingested_by ingests o) ≡ ingested_by ingests (appended s content d o)
@@ -50,3 +51,12 @@ module _ {T : Type 0} (state : T → db.State) (old new : T) (r : Result (Unit {
         (λ added. appended_at (tables_of (state new)) s content row.object n o d ingests (its_number n it row (row_of s o reported.1.1)) added));
     keeps = made.keeps;
   }
+
+-- the object with the row of one that has the deposit, before that is added
+module _ (t : Tables) (s : State) (view : View) (content : List ℕ) (row added : ObjectRow) (d : Deposit)
+    (says : (s : State) (content : List ℕ) (n : ℕ) (o : Object) → ReportsNumbers view s → row ≡ object_row n o → added ≡ object_row n (appended s content d o)) where
+  pub row_put : (e : Deposit) → d ≡ e → (it mark : Object) (was : Rewrites s row it) → ReportsNumbers view s → object_row row.object (appended s content e it) ≡ object_row row.object mark
+      → mark.metadata ≡ it.metadata → mark.files ≡ it.files → (Rewrites s added mark → TablesAre t (with_object s added.object mark)) → TablesAre t (with_object s row.object mark)
+  row_put e is it mark was numbers rows texts files =
+      row_written t s row.object was.was mark added (says s content row.object it numbers was.is_row ∙ ap (λ (x : Deposit). object_row row.object (appended s content x it)) is ∙ rows)
+      was.there (texts ∙ was.metadata) (files ∙ was.files)

@@ -99,9 +99,9 @@ equal_counters a b same =
     itself n = grind (arith, nat_tests)
 
 -- what a call promises for a decision of this form
-module _ {T : Type 0} (state : T → db.State) (old new : T) (r : Result (Unit {0}) StoreFault) (change : Change) (decision d : Decision) (is : decision ≡ d) where
-  pub carried_as : {L : Type 0} {lenders : T → L} → CarriesOut lenders state old new r change d → CarriesOut lenders state old new r change decision
-  carried_as {lenders = lenders} made = subst (CarriesOut lenders state old new r change) (sym is) made
+module _ {T L : Type 0} {lenders : T → L} {state : T → db.State} {old new : T} {r : Result (Unit {0}) StoreFault} (change : Change) {decision d : Decision} where
+  pub carried_as : decision ≡ d → CarriesOut lenders state old new r change d → CarriesOut lenders state old new r change decision
+  carried_as is made = subst (CarriesOut lenders state old new r change) (sym is) made
 
 -- what becomes of an object that is there
 pub at_object : (s : State) (uploads : Numbered Upload) (now : db.State) (r : Result (Unit {0}) StoreFault) (n : ℕ) (o : Object) (f : Object → Object) → finmap.get s.objects n ≡ Some o

@@ -14,6 +14,8 @@ use Rattle.dep_row_maps.specs.TablesAre.{TablesAre, metadata_at, files_at, with_
 use Rattle.dep_row_maps.proofs.Files.{same_number}
 use Rattle.dep_row_maps.proofs.Lens.{get_here, get_there, get_gone, get_left, insert_twice}
 use Rattle.dep_decisions.specs.Effects.{changed, ingested_by, with_files, with_texts}
+use Rattle.dep_operations.specs.declared.view.View.{View}
+use Rattle.dep_changes.specs.Reported.{ReportsNumbers, ReportsObject}
 
 -- an object is written, and then again
 pub written_again : (t : Tables) (s : State) (n : ℕ) (a b : Object) → TablesAre t (with_object (with_object s n a) n b) → TablesAre t (with_object s n b)
@@ -81,6 +83,16 @@ rewritten s n was it row is there metadata files = record {
 pub row_written : (t : Tables) (s : State) (n : ℕ) (was it : Object) (row : ObjectRow) → row ≡ object_row n it → finmap.get s.objects n ≡ Some was → it.metadata ≡ was.metadata → it.files ≡ was.files
     → (Rewrites s row it → TablesAre t (with_object s row.object it)) → TablesAre t (with_object s n it)
 row_written t s n was it row is there metadata files written = at_number t s row.object n it (its_number n it row is) (written (rewritten s n was it row is there metadata files))
+
+-- the object of the view has its new row, and else is as it was
+module _ (t : Tables) (s : State) (n : ℕ) (o : Object) (view : View) (object : ReportsObject view s n o) (numbers : ReportsNumbers view s) (row : ObjectRow) (found : view.object ≡ Some row) (now : ObjectRow) where
+  pub texts_marked : now ≡ record row { object_tag = view.next.change; metadata_tag = view.next.change; changed = view.clock }
+      → (Rewrites s now (with_texts s o.metadata o) → TablesAre t (with_object s now.object (with_texts s o.metadata o))) → TablesAre t (with_object s n (with_texts s o.metadata o))
+  texts_marked is = row_written t s n o (with_texts s o.metadata o) now (texts_row s n o view.object object.0 row found view.clock view.next numbers.0 numbers.1 now o.metadata is) object.1 refl refl
+
+  pub files_marked : now ≡ record row { object_tag = view.next.change; files_tag = view.next.change; changed = view.clock }
+      → (Rewrites s now (with_files s o.files o) → TablesAre t (with_object s now.object (with_files s o.files o))) → TablesAre t (with_object s n (with_files s o.files o))
+  files_marked is = row_written t s n o (with_files s o.files o) now (files_row s n o view.object object.0 row found view.clock view.next numbers.0 numbers.1 now o.files is) object.1 refl refl
 
 -- ---- an object goes
 

@@ -1,22 +1,15 @@
 -- The SHA-512 values of the files of an object.
-use Rattle.std.proofs.Common.{◌≡◌, ℕ, List, [], ◌∷◌, map, Some, refl, ◌∙◌, sym, subst}
+use Rattle.std.proofs.Common.{◌≡◌, ℕ, List, [], ◌∷◌, map, Some, refl, ◌∙◌}
 use Rattle.std.specs.List.{AllByRecursion, AllZip}
 use Rattle.std.specs.FinMap as finmap
 use Rattle.sha2.specs.Sha512.{sha512}
-use Rattle.sqlite.specs.State.{State, IsUnchanged}
 use Rattle.sqlite_rules.proofs.ListLemmas.{all_from}
 use Rattle.dep_types.specs.State as machine
 use Rattle.dep_types.specs.State.{File}
 use Rattle.dep_types.specs.Rows.{file_row, sha512s_of}
 use Rattle.dep_types.specs.declared.rows.FileRow.{FileRow}
-use Rattle.dep_tables.specs.Tables.{Tables, tables_of}
-use Rattle.dep_row_maps.specs.TablesAre.{TablesAre, files_at}
+use Rattle.dep_row_maps.specs.TablesAre.{files_at}
 use Rattle.dep_row_maps.proofs.Left.{entry_found}
-use Rattle.dep_files.proofs.Results.{same_tables}
-
--- they are our tables still, and the state's
-pub still_seen : (old new : State) (s : machine.State) → IsUnchanged old new → TablesAre (tables_of old) s → TablesAre (tables_of new) s
-still_seen old new s same are = subst (λ (t : Tables). TablesAre t s) (sym (same_tables old new same)) are
 
 -- it is the SHA-512 of the file with this row, where that is there
 abbrev pub IsValueOf : machine.State → FileRow → List ℕ → Type 0

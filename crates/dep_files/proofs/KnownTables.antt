@@ -28,6 +28,11 @@ use Rattle.dep_tables.proofs.BlocksTable.{of_owner, tests_owner, order, by_place
 use Rattle.dep_files.specs.Sha512s.{next_file_text, IsFileAfter}
 use Rattle.dep_files.proofs.OrderedBlocks.{values, owner_is}
 
+-- what holds of the schema of each version holds of one that is known
+of_known : (P : Schema → Type 0) → P our_schema → P older_schema → (its : Schema) → IsKnownSchema its → P its
+of_known P ours older its (inl is) = subst P (sym is) ours
+of_known P ours older its (inr is) = subst P (sym is) older
+
 -- ---- the blocks of an owner
 
 abbrev AsksBlocks : Schema → Type 0
@@ -38,8 +43,7 @@ unfolding understood everything
 older_blocks = record { names = _; is = refl; unlisted = refl; plain = (refl, refl) }
 
 blocks_in : (its : Schema) → IsKnownSchema its → AsksBlocks its
-blocks_in its (inl is) = subst AsksBlocks (sym is) owner_is
-blocks_in its (inr is) = subst AsksBlocks (sym is) older_blocks
+blocks_in = of_known AsksBlocks owner_is older_blocks
 
 pub blocks_plain : (s : State) → IsKnown s → IsPlain (understood s.now.schema blocks_of_text)
 blocks_plain s (its, known, ours) = subst (λ schema. IsPlain (understood schema blocks_of_text)) (sym ours.schema) (blocks_in its known).plain
@@ -64,8 +68,7 @@ unfolding understood everything
 older_files = record { names = _; is = refl; unlisted = refl; plain = (refl, refl) }
 
 files_in : (its : Schema) → IsKnownSchema its → AsksFile its
-files_in its (inl is) = subst AsksFile (sym is) our_files
-files_in its (inr is) = subst AsksFile (sym is) older_files
+files_in = of_known AsksFile our_files older_files
 
 pub known_files_ordered : (s : State) → IsKnown s → IsOrdered (tables_of s).files
 known_files_ordered s (its, inl is, ours) = (subst (λ schema. HasTablesOf schema s.now) is ours).trees.ordered.1.1.1.1.0

@@ -17,6 +17,9 @@ pub mod Upgraded
 pub mod Queries
 pub mod KeptFound
 pub mod Results
+pub mod Behind
+pub mod RunByRun
+pub mod HashedBehind
 pub mod Cuts
 pub mod Written
 pub mod FileCalls

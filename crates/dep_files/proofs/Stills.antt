@@ -1,5 +1,6 @@
 -- Calls of which each leaves the tables as they are.
 use Rattle.std.proofs.Common.{◌≡◌, ◌⊎◌, inl, inr, ◌∙◌, ◌≤◌, ℕ, List, [], Option, Some, None, Result, Ok, Err, false, refl, IsTrue, sym, ap, subst, arith}
+use Rattle.std.specs.Prelude.{⊤}
 use Rattle.sqlite.specs.Order.{Row}
 use Rattle.sqlite.specs.Clock.{timed}
 use Rattle.sqlite.specs.State.{State, HasCleanDisk, IsUnchanged, IsRolledBack, Survives, FailsToQuery, Shown, ShowsRows, CommitsShowing}
@@ -17,7 +18,8 @@ use Rattle.sqlite_trees.specs.declared.store.Store.{Ghosts}
 use Rattle.dep_statements.proofs.Asked.{asks_leave}
 use Rattle.dep_tables.specs.Schema.{our_schema}
 use Rattle.dep_tables.specs.Tables.{tables_in, tables_of, HasTablesOf, IsOurs, HasOurTables, IsKnown}
-use Rattle.dep_files.specs.Clauses.{OnlyReads, ShowsNoWrite, StaysOver}
+use Rattle.dep_tables.proofs.Results.{if_ok, ok_then}
+use Rattle.dep_files.specs.Clauses.{OnlyReads, ReadsOver, ShowsNoWrite, StaysOver}
 use Rattle.dep_files.specs.Reading.{IsKept}
 
 -- ---- one query
@@ -180,3 +182,26 @@ module _ {S : Type 0} {g : Ghosts S} where
     where
       left : HasCleanDisk (state g b) → IsUnchanged (state g a) (state g b) ⊎ IsRolledBack (state g a) (state g b)
       left late = asks_leave sql params (state g a) (state g b) e (inl (failed late))
+
+-- ---- what each call that reads keeps, by what it returned
+
+-- what those keep up to here that were Ok, with no value
+abbrev pub HasRead : {S : Type 0} (g : Ghosts S) (first now : Held S) → Type 0
+HasRead g first now = ReadsOver {A = ⊤} {E = ⊤} g first now (Ok tt)
+
+module _ {S A E B F : Type 0} {g : Ghosts S} {a b c : Held S} {x : A} {r : Result B F} where
+  -- one behind another that was Ok
+  pub over_then : ReadsOver {A = A} {E = E} g a b (Ok x) → ReadsOver g b c r → ReadsOver g a c r
+  over_then first second = record {
+    stays = stays_then first.stays (λ clean. still_same (state g a) (state g b) (first.same clean)) second.stays;
+    same = λ clean. ok_then r (second.same clean) (λ more. unchanged_then (state g a) (state g b) (state g c) (first.same (second.stays.honest clean)) more);
+  }
+
+module _ {S A E B F : Type 0} {g : Ghosts S} {a b : Held S} where
+  -- something else is returned behind an Ok
+  pub over_ok : {x : A} {r : Result B F} → ReadsOver {A = A} {E = E} g a b (Ok x) → ReadsOver g a b r
+  over_ok {r = r} reads = record { stays = reads.stays; same = λ clean. if_ok r (reads.same clean) }
+
+  -- and an error, of which only this is known
+  pub over_err : {r : Result A E} {e : F} → ReadsOver g a b r → ReadsOver {A = B} g a b (Err e)
+  over_err reads = record { stays = reads.stays; same = λ clean. tt }

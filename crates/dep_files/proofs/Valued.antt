@@ -1,12 +1,14 @@
 -- The values of files, one after another.
-use Rattle.std.proofs.Common.{◌≡◌, inl, inr, ℕ, ◌<◌, ◌≤◌, ◌+◌, pos, List, [], ◌∷◌, ◌++◌, map, filter, find, Some, None, refl, sym, ap, ◌∙◌, append-nil, append_assoc, arith}
+use Rattle.std.proofs.Common.{◌≡◌, inl, inr, ℕ, ◌<◌, ◌≤◌, ◌+◌, pos, List, [], ◌∷◌, ◌++◌, map, filter, find, Option, Some, None, refl, sym, ap, subst, ◌∙◌, append-nil, append_assoc, arith}
 use Rattle.std.specs.List.{AllByRecursion}
 use Rattle.std.proofs.lemmas.List.{map-append}
 use Rattle.sqlite.specs.declared.types.Value.{Value}
 use Rattle.sqlite.specs.declared.types.Value.TheVariants.{Int}
 use Rattle.sqlite_trees.specs.Tree.{rowid}
 use Rattle.dep_statements.specs.Rows.{IsOrdered, is_after}
-use Rattle.dep_tables.specs.Tables.{Tables}
+use Rattle.sqlite.specs.State.{State}
+use Rattle.dep_tables.specs.Tables.{Tables, tables_of, IsKnown}
+use Rattle.dep_files.proofs.Stills.{IsStill, known_still, tables_still}
 use Rattle.dep_tables.specs.declared.sha512s.FileSha512.{FileSha512}
 use Rattle.dep_files.specs.Sha512s.{HasValue, IsValueAfter, AreValuesOf, IsReached}
 use Rattle.dep_files.proofs.Walks.{found_after, found_there, next_row, no_row, none_found, row_found}
@@ -52,3 +54,7 @@ all_valued t values last count so_far none = record {
   numbered = sym (append-nil (map key values)) ∙ ap (λ l. map key values ++ map rowid l) (sym (no_row last t.files (none_found (find (is_after last) t.files) none.0))) ∙ so_far.numbered;
   each = so_far.each;
 }
+
+-- the next value is told where the tables are still as they were at first
+pub value_after : (old now : State) (after : ℕ) (found : Option FileSha512) → IsStill old now → IsKnown old → (IsKnown now → IsValueAfter (tables_of now) after found) → IsValueAfter (tables_of old) after found
+value_after old now after found still known next = subst (λ (t : Tables). IsValueAfter t after found) (tables_still old now still) (next (known_still old now still known))

@@ -78,10 +78,9 @@ row_is_of t s row was o is texts files are =
     subst (λ (x : Object). TablesAre t (with_object s n x)) same are
 
 -- an object's metadata is deleted, and then its row
-pub object_gone : (t u v : Tables) (s : State) (n : ℕ) → TablesAre t s → files_at s.objects n ≡ finmap.empty → u ≡ record t { metadata = filter (λ r. not (has_number 1 n r)) t.metadata }
-    → v ≡ record u { objects = without_rowid (pos n) u.objects } → TablesAre v (record s { objects = finmap.remove s.objects n })
-object_gone t u v s n h files first second =
-    subst (λ x. TablesAre x (record s { objects = finmap.remove s.objects n })) (sym (second ∙ ap (λ (x : Tables). record x { objects = without_rowid (pos n) x.objects }) first)) (object_deleted t s h n files)
+pub object_gone : (t u : Tables) (s : State) (n : ℕ) → TablesAre t s → files_at s.objects n ≡ finmap.empty
+    → u ≡ record t { objects = without_rowid (pos n) t.objects; metadata = filter (λ r. not (has_number 1 n r)) t.metadata } → TablesAre u (record s { objects = finmap.remove s.objects n })
+object_gone t u s n h files gone = subst (λ x. TablesAre x (record s { objects = finmap.remove s.objects n })) (sym gone) (object_deleted t s h n files)
 
 -- the row that is found of a number is that of an object that is there
 number_of : (n : ℕ) (row : ObjectRow) (o : Option Object) → Some row ≡ option_map (object_row n) o → row.object ≡ n

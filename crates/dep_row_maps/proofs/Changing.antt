@@ -1,5 +1,5 @@
 -- One call after another that changes our tables.
-use Rattle.std.proofs.Common.{◌≡◌, IsErr, IsTrue, Result, Ok, OnOk, ◌∙◌}
+use Rattle.std.proofs.Common.{◌≡◌, IsErr, IsTrue, Result, Ok, OnOk, ap, ◌∙◌}
 use Rattle.std.proofs.lemmas.Result.{IfOk-from_err}
 use Rattle.sqlite.specs.State.{State, HasCleanDisk}
 use Rattle.dep_types.specs.State.{State as Maps}
@@ -66,6 +66,42 @@ module _ {T L A X Y : Type 0} {lenders : T → L} {state : T → State} {old mid
         let was = part before inside ours in
         ok_then r (last.ok clean (first.inside before inside) was.0) (λ led. record { ours = led.ours; rows = led.rows ∙ was.1 });
     stays = stays_then first last.keeps.stays;
+  }
+
+-- ---- our tables behind a call that was Ok
+
+-- the disk was clean, and a transaction goes on over them
+pub record IsInside (now : State) : Type 0 where
+  pub clean : HasCleanDisk now
+  pub inside : IsTrue now.in_transaction
+  pub ours : IsOurs now
+
+module _ {T L : Type 0} {lenders : T → L} {state : T → State} {old mid new : T} {A E B : Type 0} {x : A} where
+  -- so they are where the next call begins
+  pub inside_after : {F : Type 0} {r : Result B F} → ChangesWithin {A = A} {E = E} lenders state old mid (Ok x) → StaysWithin lenders state mid new r
+      → HasCleanDisk (state new) → IsTrue (state old).in_transaction → IsOurs (state old) → IsInside (state mid)
+  inside_after first second clean inside ours =
+      let before = clean_before second clean in
+      record { clean = before; inside = first.stays.inside before inside; ours = first.ours before inside ours }
+
+-- the tables that a call makes, were they no state's
+module _ {T L A : Type 0} {lenders : T → L} {state : T → State} {old new : T} {r : Result A StoreFault} where
+  pub tables_kept : {change : Tables → Tables} → ChangesTables lenders state old new r change → ChangesWithin lenders state old new r
+  tables_kept {change} does = by_sees (change (tables_of (state old))) does.stays does.ok
+
+  -- those of a statement
+  pub tables_by : {statement : Statement} → Writes lenders state old new r statement → ChangesTables lenders state old new r statement.change
+  tables_by does = record { ok = λ clean inside ours. ok_then r (does.ok clean inside ours) (λ led. record { ours = led.ours; rows = led.rows }); stays = does.keeps.stays }
+
+-- and those of one call behind another
+module _ {T L A B : Type 0} {lenders : T → L} {state : T → State} {old mid new : T} {x : A} {r : Result B StoreFault} {one two : Tables → Tables} where
+  pub tables_after : ChangesTables lenders state old mid (Ok x) one → ChangesTables lenders state mid new r two → ChangesTables lenders state old new r (λ t. two (one t))
+  tables_after first second = record {
+    ok = λ clean inside ours.
+        let before = clean_before second.stays clean in
+        let was = first.ok before inside ours in
+        ok_then r (second.ok clean (first.stays.inside before inside) was.ours) (λ seen. record { ours = seen.ours; rows = seen.rows ∙ ap two was.rows });
+    stays = stays_then first.stays second.stays;
   }
 
 -- nothing is done

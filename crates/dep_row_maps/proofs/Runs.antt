@@ -39,13 +39,13 @@ module _ (k : BlockKey) (to : BlockOwner) (apart : k.owner ≢ to) where
   rows_moved (r ∷ rows) = ap₂ ◌∷◌ (one_moved r (is_earlier_block k r) refl) (rows_moved rows)
 
   -- where a run was moved, the move of all makes what it made before
-  moved_rest : (t : Tables) → with_blocks_moved k.owner to (with_run_moved k to t) ≡ with_blocks_moved k.owner to t
+  pub moved_rest : (t : Tables) → with_blocks_moved k.owner to (with_run_moved k to t) ≡ with_blocks_moved k.owner to t
   moved_rest t = ap (λ rows. record t { blocks = rows }) (rows_moved t.blocks)
 
 -- ---- deletions
 
 -- the same of a run that was deleted
-deleted_rest : (k : BlockKey) (t : Tables) → without_blocks_of k.owner (without_run k t) ≡ without_blocks_of k.owner t
+pub deleted_rest : (k : BlockKey) (t : Tables) → without_blocks_of k.owner (without_run k t) ≡ without_blocks_of k.owner t
 deleted_rest k t = ap (λ rows. record t { blocks = rows }) (filter_of_left (λ r. not (is_block_of k.owner r)) (is_earlier_block k) t.blocks apart)
   where
     apart : (r : Row) → not (is_block_of k.owner r) ≡ true → is_earlier_block k r ≡ true → ⊥
@@ -82,26 +82,8 @@ rows_kept o (r ∷ rows) none = go (is_block_of o r) refl none (rows_kept o rows
     go false is none more = rw is (ap (λ rest. r ∷ rest) (more (rw is at none)))
 
 -- an owner of whom no block is found has none to move, and none to delete
-moved_none : (o to : BlockOwner) (t : Tables) → IsFirstBlock o t None → with_blocks_moved o to t ≡ t
+pub moved_none : (o to : BlockOwner) (t : Tables) → IsFirstBlock o t None → with_blocks_moved o to t ≡ t
 moved_none o to t first = ap (λ rows. record t { blocks = rows }) (rows_stay o to t.blocks (none_left o t first))
 
-deleted_none : (o : BlockOwner) (t : Tables) → IsFirstBlock o t None → without_blocks_of o t ≡ t
+pub deleted_none : (o : BlockOwner) (t : Tables) → IsFirstBlock o t None → without_blocks_of o t ≡ t
 deleted_none o t first = ap (λ rows. record t { blocks = rows }) (rows_kept o t.blocks (none_left o t first))
-
--- ---- one run after another
-
--- a run more is moved, and what the move of all makes is the same
-pub one_run_moved : (k : BlockKey) (to : BlockOwner) → k.owner ≢ to → (old mid seen new : Tables) → with_blocks_moved k.owner to mid ≡ with_blocks_moved k.owner to old
-    → seen ≡ mid → new ≡ with_run_moved k to seen → with_blocks_moved k.owner to new ≡ with_blocks_moved k.owner to old
-one_run_moved k to apart old mid seen new so_far same next = ap (with_blocks_moved k.owner to) next ∙ moved_rest k to apart seen ∙ ap (with_blocks_moved k.owner to) same ∙ so_far
-
--- a run more is deleted
-pub one_run_deleted : (k : BlockKey) (old mid seen new : Tables) → without_blocks_of k.owner mid ≡ without_blocks_of k.owner old → seen ≡ mid → new ≡ without_run k seen → without_blocks_of k.owner new ≡ without_blocks_of k.owner old
-one_run_deleted k old mid seen new so_far same next = ap (without_blocks_of k.owner) next ∙ deleted_rest k seen ∙ ap (without_blocks_of k.owner) same ∙ so_far
-
--- where none is found, all were
-pub all_moved : (o to : BlockOwner) (old mid seen : Tables) → with_blocks_moved o to mid ≡ with_blocks_moved o to old → seen ≡ mid → IsFirstBlock o mid None → seen ≡ with_blocks_moved o to old
-all_moved o to old mid seen so_far same first = same ∙ sym (moved_none o to mid first) ∙ so_far
-
-pub all_deleted : (o : BlockOwner) (old mid seen : Tables) → without_blocks_of o mid ≡ without_blocks_of o old → seen ≡ mid → IsFirstBlock o mid None → seen ≡ without_blocks_of o old
-all_deleted o old mid seen so_far same first = same ∙ sym (deleted_none o mid first) ∙ so_far

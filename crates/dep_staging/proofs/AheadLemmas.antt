@@ -1,10 +1,11 @@
 -- How far uploads were hashed before a request needs their digests.
-use Rattle.std.proofs.Common.{◌≡◌, ◌≢◌, ◌⊎◌, inl, inr, ℕ, zero, suc, ◌+◌, ◌<◌, ◌≤◌, List, [], ◌++◌, unwrap_or, Option, Some, None, is_some, true, ◌&&◌, refl, sym, ap, subst, ◌∙◌, nat_cmp, append-nil, append_assoc, arith}
+use Rattle.std.proofs.Common.{◌≡◌, ◌≢◌, ◌⊎◌, inl, inr, ℕ, zero, suc, ◌+◌, ◌<◌, ◌≤◌, List, [], ◌++◌, unwrap_or, IsTrue, Option, Some, None, Result, Ok, is_some, true, ◌&&◌, refl, sym, ap, subst, ◌∙◌, nat_cmp, append-nil, append_assoc, arith}
 use Rattle.std.specs.Prelude.{slice_get}
 use Rattle.std.specs.List.{flat_map, list_all, range_with_len}
 use Rattle.std.specs.Option.{option_map_or}
 use Rattle.std.specs.FinMap as finmap
 use Rattle.std.proofs.lemmas.Bool.{cases_lt}
+use Rattle.sqlite.specs.State as db
 use Rattle.dep_fixity.specs.Fixity.{Holds, digests_of}
 use Rattle.dep_fixity.specs.declared.hasher.Digests.{Digests}
 use Rattle.dep_types.specs.Maps.{Numbered}
@@ -12,13 +13,17 @@ use Rattle.dep_types.specs.Sound.{IsSound}
 use Rattle.dep_types.specs.State.{State, Upload}
 use Rattle.dep_types.specs.Uploads.{assembled, has_segment, is_complete}
 use Rattle.dep_types.specs.declared.rows.UploadRow.{UploadRow}
+use Rattle.dep_types.specs.declared.store_fault.StoreFault.{StoreFault}
+use Rattle.dep_tables.specs.Clauses.{MayReadWithin}
+use Rattle.dep_row_maps.specs.Clauses.{OverMaps, ReadsOver}
+use Rattle.dep_files.proofs.Behind.{behind_any}
 use Rattle.dep_files.proofs.Cuts.{one_block_more, all_blocks}
 use Rattle.dep_row_maps.specs.Laws.{HasSegmentsWithin}
 use Rattle.dep_row_maps.specs.Stored.{blocks_of}
 use Rattle.dep_row_maps.proofs.Whole.{segments_there}
 use Rattle.dep_staging.specs.Comparing.{stored_bytes}
 use Rattle.dep_staging.specs.Hashing.{AreDigestsOf}
-use Rattle.dep_staging.specs.HashedAhead.{bytes_of, bytes_from, first_blocks, WasReceived, HasHashed, IsFresh, IsRunning}
+use Rattle.dep_staging.specs.HashedAhead.{bytes_of, bytes_from, first_blocks, WasReceived, HasGoneOn, HasHashed, IsFresh, IsRunning}
 use Rattle.dep_staging.specs.declared.running.RunningHash.{RunningHash}
 use Rattle.dep_staging.proofs.StoredBlocks.{got_by, past_by, within_by}
 
@@ -192,3 +197,14 @@ pub digests_reported : (s : State) (row : UploadRow) (run : RunningHash) (digest
 digests_reported s row run digests sound running its whole reported it there same =
     let at = ap (finmap.get s.uploads) its ∙ there in
     reported (assembled it) (whole_hashed it run (λ k bytes found. let w = (sound.uploads run.upload it at).segments k bytes found in (w.0, w.1)) (running_at s run it running at) (whole ∙ same))
+
+-- a step that goes on with a hash, behind calls that only read and have gone on with it
+module _ {T L : Type 0} {lenders : T → L} {state : T → db.State} {old mid new : T} {A E B : Type 0} {x : A} {r : Result B StoreFault} {first so_far now : RunningHash} where
+  pub gone_on : MayReadWithin {A = A} {E = E} lenders state old mid (Ok x) → (IsTrue (state old).is_open → OverMaps (state old) (state mid) (λ s. IsSound s → IsRunning s first → HasGoneOn s first so_far))
+      → ReadsOver lenders state mid new r (λ s. IsSound s → IsRunning s so_far → HasGoneOn s so_far now)
+      → IsTrue (state old).is_open → OverMaps (state old) (state new) (λ s. IsSound s → IsRunning s first → HasGoneOn s first now)
+  gone_on reads before step is_open clean ours s are sound running =
+      let seen = behind_any reads step.keeps.stays is_open clean ours s are in
+      let was = before is_open seen.clean ours s are sound running in
+      let more = step.map clean seen.ours s seen.are sound was.0 in
+      (more.0, more.1 ∙ was.1)

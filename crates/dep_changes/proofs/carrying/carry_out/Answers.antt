@@ -2,13 +2,12 @@ use Rattle.std.proofs.lemmas.Result.{IfOk-from_err}
 use Rattle.std.proofs.Common.{◌≡◌, ◌∙◌, true, false, refl, sym, ap, subst}
 use Rattle.dep_types.specs.Numbers.{counters_after}
 use Rattle.dep_types.specs.declared.counters.Counters.{Counters}
-use Rattle.dep_tables.proofs.Chains.{clean_before}
 use Rattle.dep_tables.specs.Tables.{Tables, tables_of}
 use Rattle.dep_tables.proofs.Results.{ok_then}
 use Rattle.dep_decisions.specs.Decisions.{numbers_for}
 use Rattle.dep_changes.specs.Changed.{with_maps}
 use Rattle.dep_changes.proofs.Carried.{numbers_reported, reported, carried, equal_counters, none_taken, same_counters}
-use Rattle.dep_row_maps.proofs.Changing.{by_leads, changes_then, changes_ok, changes_err}
+use Rattle.dep_row_maps.proofs.Changing.{changes_then, changes_ok, changes_err, inside_after, tables_by, tables_kept}
 use Rattle.dep_row_maps.proofs.Whole.{state_written}
 use Rattle.dep_row_maps.specs.TablesAre.{TablesAre, with_counters}
 use Rattle.dep_changes.proofs.carrying.carry_out.Goals as goal
@@ -32,19 +31,19 @@ returns-clause-map g c = record {
   done = λ clean inside ours s are it.
       let new = g.T.Statements.state c.write_state.new.tx in
       let mid = g.T.Statements.state c.change_maps.new.tx in
-      let before = clean_before c.write_state.ensures.does.keeps.stays clean in
+      let before = inside_after c.in_ok-change_maps.ensures.map.keeps c.write_state.ensures.does.keeps.stays clean inside ours in
       let view = c.args.view.now in
       let d = c.args.decision.now in
       let content = c.args.content.now in
       let next = c.after_taking-next.result in
       let numbers = numbers_reported s view content d it in
-      let made = c.in_ok-change_maps.ensures.map.done before inside ours s are (numbers, reported s view content d it) in
+      let made = c.in_ok-change_maps.ensures.map.done before.clean inside ours s are (numbers, reported s view content d it) in
       let after : next ≡ counters_after s.next (numbers_for d) = c.after_taking-next.ensures ∙ ap (λ (was : Counters). counters_after was c.numbers_for.result) numbers.1 ∙ ap (counters_after s.next) c.numbers_for.ensures in
       ok_then c.write_state.result
-      (c.write_state.ensures.does.ok clean (c.in_ok-change_maps.ensures.map.keeps.stays.inside before inside) (c.in_ok-change_maps.ensures.map.keeps.ours before inside ours))
+      (c.write_state.ensures.does.ok clean before.inside before.ours)
       (λ wrote. carried s content d (tables_of new) view.clock next numbers.0 after
       (subst (λ (t : Tables). TablesAre t (with_counters (with_maps s content d) view.clock next)) (sym wrote.rows) (state_written (tables_of mid) (with_maps s content d) made view.clock next)));
-  keeps = changes_then c.in_ok-change_maps.ensures.map.keeps (by_leads _ c.write_state.ensures.does.keeps.stays c.write_state.ensures.does.ok);
+  keeps = changes_then c.in_ok-change_maps.ensures.map.keeps (tables_kept (tables_by c.write_state.ensures.does));
 }
 
 pub returns-in_err-change_maps-clause-untouched : goal.returns-in_err-change_maps-clause-untouched

@@ -1,22 +1,20 @@
 use Rattle.std.proofs.Common.{List, refl, ap, sym, subst, ◌∙◌}
 use Rattle.std.specs.FinMap as finmap
-use Rattle.dep_types.specs.Rows.{object_row}
 use Rattle.dep_types.specs.State.{Object}
 use Rattle.dep_types.specs.MetadataEntries.{joined}
-use Rattle.dep_tables.proofs.Chains.{clean_before, stays_put}
+use Rattle.dep_tables.proofs.Chains.{stays_put}
 use Rattle.dep_tables.proofs.Results.{ok_then}
 use Rattle.dep_tables.specs.Tables.{tables_of}
 use Rattle.dep_row_maps.specs.TablesAre.{with_object}
-use Rattle.dep_row_maps.proofs.Changing.{changes_then, does_failed}
+use Rattle.dep_row_maps.proofs.Changing.{changes_then, does_failed, inside_after}
 use Rattle.dep_row_maps.proofs.Lens.{get_here}
-use Rattle.dep_decisions.specs.Effects.{appended, with_files, with_texts}
-use Rattle.dep_decisions.specs.declared.decision.Deposit.{Deposit}
+use Rattle.dep_decisions.specs.Effects.{with_files, with_texts}
 use Rattle.dep_decisions.specs.declared.decision.Deposit.TheVariants.{Files}
 use Rattle.dep_decisions.specs.declared.decision.NewFile.{NewFile}
 use Rattle.dep_changes.specs.Clauses.{Appends}
 use Rattle.dep_changes.proofs.Added.{new_files_again}
-use Rattle.dep_changes.proofs.Appended.{append_carried}
-use Rattle.dep_changes.proofs.Steps.{row_written, written_again}
+use Rattle.dep_changes.proofs.Appended.{append_carried, row_put}
+use Rattle.dep_changes.proofs.Steps.{written_again}
 use Rattle.dep_changes.proofs.deposits.append.Goals as goal
 
 pub returns-in-Files : goal.returns-in-Files
@@ -29,15 +27,13 @@ returns-in-Files g c = record {
       (subst (Appends g.T.Statements.lenders g.T.Statements.state c.args.tx.now c.put_new_files.new.tx c.put_new_files.result change row) (ap (λ (new : List NewFile). Files new) c.as_slice-files.ensures ∙ sym c.in-Files.is)
       (record {
         done = λ it clean inside ours s are reported.
-            let before = clean_before c.put_new_files.ensures.map.keeps.stays clean in
-            let at = row.object in
-            let was = reported.1 in
+            let before = inside_after c.in_ok-put_object.ensures.does.keeps c.put_new_files.ensures.map.keeps.stays clean inside ours in
             let mark : Object = with_files s it.files it in
-            let is = c.added_to.ensures s change.content.now at it reported.0.0 was.is_row ∙ ap (λ (d : Deposit). object_row at (appended s change.content.now d it)) c.in-Files.is in
-            let put = row_written (tables_of (g.T.Statements.state c.put_object.new.tx)) s at was.was mark c.added_to.result is was.there was.metadata was.files (c.in_ok-put_object.ensures.does.map before inside ours s are mark) in
+            let put = row_put (tables_of (g.T.Statements.state c.put_object.new.tx)) s change.view.now change.content.now row c.added_to.result c.args.numbered.now.deposit.now c.added_to.ensures _ c.in-Files.is it mark reported.1 reported.0.0 refl refl refl
+            (c.in_ok-put_object.ensures.does.map before.clean inside ours s are mark) in
             ok_then c.put_new_files.result
-            (c.put_new_files.ensures.map.done mark clean (c.in_ok-put_object.ensures.does.keeps.stays.inside before inside) (c.in_ok-put_object.ensures.does.keeps.ours before inside ours) (with_object s at mark) put (reported.0, get_here s.objects at mark))
-            (λ added. new_files_again (tables_of (g.T.Statements.state c.put_new_files.new.tx)) s change.content.now at at mark mark files refl added);
+            (c.put_new_files.ensures.map.done mark clean before.inside before.ours (with_object s row.object mark) put (reported.0, get_here s.objects row.object mark))
+            (λ added. new_files_again (tables_of (g.T.Statements.state c.put_new_files.new.tx)) s change.content.now row.object row.object mark mark files refl added);
         keeps = changes_then c.in_ok-put_object.ensures.does.keeps c.put_new_files.ensures.map.keeps;
       }));
 }
@@ -52,15 +48,13 @@ returns-in-Metadata g c = record {
       (subst (Appends g.T.Statements.lenders g.T.Statements.state c.args.tx.now c.append_metadata.new.tx c.append_metadata.result change row) (sym c.in-Metadata.is)
       (record {
         done = λ it clean inside ours s are reported.
-            let before = clean_before c.append_metadata.ensures.does.keeps.stays clean in
-            let at = row.object in
-            let was = reported.1 in
+            let before = inside_after c.in_ok-put_object.ensures.does.keeps c.append_metadata.ensures.does.keeps.stays clean inside ours in
             let mark : Object = with_texts s it.metadata it in
-            let is = c.added_to.ensures s change.content.now at it reported.0.0 was.is_row ∙ ap (λ (d : Deposit). object_row at (appended s change.content.now d it)) c.in-Metadata.is in
-            let put = row_written (tables_of (g.T.Statements.state c.put_object.new.tx)) s at was.was mark c.added_to.result is was.there was.metadata was.files (c.in_ok-put_object.ensures.does.map before inside ours s are mark) in
+            let put = row_put (tables_of (g.T.Statements.state c.put_object.new.tx)) s change.view.now change.content.now row c.added_to.result c.args.numbered.now.deposit.now c.added_to.ensures _ c.in-Metadata.is it mark reported.1 reported.0.0 refl refl refl
+            (c.in_ok-put_object.ensures.does.map before.clean inside ours s are mark) in
             ok_then c.append_metadata.result
-            (c.append_metadata.ensures.does.map clean (c.in_ok-put_object.ensures.does.keeps.stays.inside before inside) (c.in_ok-put_object.ensures.does.keeps.ours before inside ours) (with_object s at mark) put mark (get_here s.objects at mark))
-            (λ added. written_again (tables_of (g.T.Statements.state c.append_metadata.new.tx)) s at mark (with_texts s (joined (finmap.entries texts) it.metadata) it) added);
+            (c.append_metadata.ensures.does.map clean before.inside before.ours (with_object s row.object mark) put mark (get_here s.objects row.object mark))
+            (λ added. written_again (tables_of (g.T.Statements.state c.append_metadata.new.tx)) s row.object mark (with_texts s (joined (finmap.entries texts) it.metadata) it) added);
         keeps = changes_then c.in_ok-put_object.ensures.does.keeps c.append_metadata.ensures.does.keeps;
       }));
 }

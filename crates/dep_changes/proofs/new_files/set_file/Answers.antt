@@ -2,7 +2,7 @@ use Rattle.std.proofs.Common.{refl, sym, subst}
 use Rattle.std.specs.Prelude.{slice_get}
 use Rattle.std.specs.FinMap as finmap
 use Rattle.dep_types.specs.State.{State, Object, File}
-use Rattle.dep_tables.proofs.Chains.{clean_before, stays_put, stays_then}
+use Rattle.dep_tables.proofs.Chains.{stays_put, stays_then}
 use Rattle.dep_tables.specs.Tables.{tables_of}
 use Rattle.dep_tables.proofs.Results.{ok_then}
 use Rattle.dep_row_maps.specs.TablesAre.{TablesAre, with_object}
@@ -12,8 +12,8 @@ use Rattle.dep_decisions.specs.declared.decision.Source.{Source}
 use Rattle.dep_changes.proofs.Carried.{at_object}
 use Rattle.dep_changes.specs.Changed.{made_file, with_new_file}
 use Rattle.dep_changes.specs.Reported.{IsSource}
-use Rattle.dep_changes.proofs.Steps.{files_row, number_is, at_number, there_at, written_again, file_replaced, row_written}
-use Rattle.dep_row_maps.proofs.Changing.{changes_then, does_failed}
+use Rattle.dep_changes.proofs.Steps.{number_is, at_number, there_at, written_again, file_replaced, files_marked}
+use Rattle.dep_row_maps.proofs.Changing.{changes_then, does_failed, inside_after}
 use Rattle.dep_changes.proofs.new_files.set_file.Goals as goal
 
 pub returns : goal.returns
@@ -25,35 +25,28 @@ returns g c = record {
             let view = c.args.change.now.view.now in
             let f = c.args.file in
             let as_new = c.args.new.now in
-            let one = g.T.Statements.state c.put_object.new.tx in
-            let two = g.T.Statements.state c.delete_file.new.tx in
             let new = g.T.Statements.state c.put_new_file.new.tx in
-            let clean_two = clean_before c.put_new_file.ensures.map.keeps.stays clean in
-            let clean_one = clean_before c.delete_file.ensures.does.keeps.stays clean_two in
-            let inside_one = c.in_ok-put_object.ensures.does.keeps.stays.inside clean_one inside in
-            let ours_one = c.in_ok-put_object.ensures.does.keeps.ours clean_one inside ours in
-            let numbers = reported.0 in
+            let two = inside_after (changes_then c.in_ok-put_object.ensures.does.keeps c.in_ok-delete_file.ensures.does.keeps) c.put_new_file.ensures.map.keeps.stays clean inside ours in
+            let one = inside_after c.in_ok-put_object.ensures.does.keeps c.delete_file.ensures.does.keeps.stays two.clean inside ours in
             let o = reported.1.0 in
-            let file = reported.1.1 in
             let object = reported.1.2.0 in
             let source = reported.1.3 in
             let row = c.in_ok-row.row in
             let number = number_is s n o view.object object.0 row c.in_ok-row.ensures.reported in
-            let now = c.files_changed.result in
             let mark : Object = with_files s o.files o in
-            let is = files_row s n o view.object object.0 row c.in_ok-row.ensures.reported view.clock view.next numbers.0 numbers.1 now o.files c.files_changed.ensures in
-            let put = row_written (tables_of one) s n o mark now is object.1 refl refl (c.in_ok-put_object.ensures.does.map clean_one inside ours s are mark) in
+            let put = files_marked (tables_of (g.T.Statements.state c.put_object.new.tx)) s n o view object reported.0 row c.in_ok-row.ensures.reported c.files_changed.result c.files_changed.ensures
+            (c.in_ok-put_object.ensures.does.map one.clean inside ours s are mark) in
             let first : State = with_object s n mark in
             let left : Object = with_files s (finmap.remove o.files f) o in
-            let gone = written_again (tables_of two) s n mark left
-            (c.in_ok-delete_file.ensures.does.map clean_two inside_one ours_one first put n mark file (get_here s.objects n mark) reported.1.2.1) in
+            let gone = written_again (tables_of (g.T.Statements.state c.delete_file.new.tx)) s n mark left
+            (c.in_ok-delete_file.ensures.does.map two.clean one.inside one.ours first put n mark reported.1.1 (get_here s.objects n mark) reported.1.2.1) in
             let second : State = with_object s n left in
             let made : File = made_file s as_new content in
             let it : Object = with_files s (finmap.insert (finmap.remove o.files f) f made) o in
             at_object s s.uploads new c.put_new_file.result n o (λ (x : Object). with_files s (finmap.insert x.files f (file_from s content as_new)) x) object.1
             (ok_then c.put_new_file.result
-            (c.put_new_file.ensures.map.done left clean (c.in_ok-delete_file.ensures.does.keeps.stays.inside clean_two inside_one) (c.in_ok-delete_file.ensures.does.keeps.ours clean_two inside_one ours_one) second gone
-            ((numbers, subst (IsSource second content (slice_get view.uploads 0)) (sym source) refl), there_at second.objects row.object n left number (get_here s.objects n left)))
+            (c.put_new_file.ensures.map.done left clean two.inside two.ours second gone
+            ((reported.0, subst (IsSource second content (slice_get view.uploads 0)) (sym source) refl), there_at second.objects row.object n left number (get_here s.objects n left)))
             (λ there.
             let posted = subst (λ (from : Source). TablesAre (tables_of new) (with_new_file second row.object left f (made_file second as_new (bytes_from second content from)) from)) source there in
             subst (λ (from : Source). TablesAre (tables_of new) (with_object s n (with_files s (finmap.insert o.files f (made_file s as_new (bytes_from s content from))) o))) (sym source)

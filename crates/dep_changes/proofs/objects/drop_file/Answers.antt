@@ -1,15 +1,14 @@
-use Rattle.std.proofs.Common.{refl}
 use Rattle.std.specs.FinMap as finmap
 use Rattle.dep_types.specs.State.{State, Object}
-use Rattle.dep_tables.proofs.Chains.{clean_before, stays_put}
+use Rattle.dep_tables.proofs.Chains.{stays_put}
 use Rattle.dep_tables.specs.Tables.{tables_of}
 use Rattle.dep_tables.proofs.Results.{ok_then}
 use Rattle.dep_row_maps.specs.TablesAre.{with_object}
 use Rattle.dep_row_maps.proofs.Lens.{get_here}
 use Rattle.dep_decisions.specs.Effects.{with_files}
 use Rattle.dep_changes.proofs.Carried.{at_object}
-use Rattle.dep_changes.proofs.Steps.{files_row, written_again, row_written}
-use Rattle.dep_row_maps.proofs.Changing.{changes_then, does_failed}
+use Rattle.dep_changes.proofs.Steps.{written_again, files_marked}
+use Rattle.dep_row_maps.proofs.Changing.{changes_then, does_failed, inside_after}
 use Rattle.dep_changes.proofs.objects.drop_file.Goals as goal
 
 pub returns : goal.returns
@@ -17,25 +16,18 @@ returns g c = record {
   map = λ n.
       record {
         done = λ clean inside ours s are reported.
-            let mid = g.T.Statements.state c.put_object.new.tx in
-            let view = c.args.change.now.view.now in
-            let new = g.T.Statements.state c.delete_file.new.tx in
-            let before = clean_before c.delete_file.ensures.does.keeps.stays clean in
-            let numbers = reported.0 in
+            let before = inside_after c.in_ok-put_object.ensures.does.keeps c.delete_file.ensures.does.keeps.stays clean inside ours in
             let o = reported.1.0 in
-            let file = reported.1.1 in
             let object = reported.1.2.0 in
-            let row = c.in_ok-row.row in
-            let now = c.files_changed.result in
             let mark : Object = with_files s o.files o in
-            let is = files_row s n o view.object object.0 row c.in_ok-row.ensures.reported view.clock view.next numbers.0 numbers.1 now o.files c.files_changed.ensures in
-            let put = row_written (tables_of mid) s n o mark now is object.1 refl refl (c.in_ok-put_object.ensures.does.map before inside ours s are mark) in
+            let put = files_marked (tables_of (g.T.Statements.state c.put_object.new.tx)) s n o c.args.change.now.view.now object reported.0 c.in_ok-row.row c.in_ok-row.ensures.reported c.files_changed.result c.files_changed.ensures
+            (c.in_ok-put_object.ensures.does.map before.clean inside ours s are mark) in
             let one : State = with_object s n mark in
             let it : Object = with_files s (finmap.remove o.files c.args.file) o in
-            at_object s s.uploads new c.delete_file.result n o (λ (x : Object). with_files s (finmap.remove x.files c.args.file) x) object.1
+            at_object s s.uploads (g.T.Statements.state c.delete_file.new.tx) c.delete_file.result n o (λ (x : Object). with_files s (finmap.remove x.files c.args.file) x) object.1
             (ok_then c.delete_file.result
-            (c.delete_file.ensures.does.map clean (c.in_ok-put_object.ensures.does.keeps.stays.inside before inside) (c.in_ok-put_object.ensures.does.keeps.ours before inside ours) one put n mark file (get_here s.objects n mark) reported.1.2.1)
-            (λ gone. written_again (tables_of new) s n mark it gone));
+            (c.delete_file.ensures.does.map clean before.inside before.ours one put n mark reported.1.1 (get_here s.objects n mark) reported.1.2.1)
+            (λ gone. written_again (tables_of (g.T.Statements.state c.delete_file.new.tx)) s n mark it gone));
         keeps = changes_then c.in_ok-put_object.ensures.does.keeps c.delete_file.ensures.does.keeps;
       };
 }

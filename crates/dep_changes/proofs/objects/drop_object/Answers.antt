@@ -1,9 +1,8 @@
-use Rattle.dep_tables.proofs.Chains.{clean_before}
 use Rattle.dep_tables.specs.Tables.{tables_of}
 use Rattle.dep_tables.proofs.Results.{ok_then}
 use Rattle.dep_files.specs.Edits.{without_files}
 use Rattle.dep_changes.proofs.Steps.{emptied, gone_after}
-use Rattle.dep_row_maps.proofs.Changing.{changes_then, each_failed}
+use Rattle.dep_row_maps.proofs.Changing.{changes_then, each_failed, inside_after}
 use Rattle.dep_changes.proofs.objects.drop_object.Goals as goal
 
 pub returns : goal.returns
@@ -11,10 +10,10 @@ returns g c = record {
   map = record {
     done = λ o clean inside ours s are there.
         let new = g.T.Statements.state c.delete_object.new.tx in
-        let before = clean_before c.delete_object.ensures.does.keeps.stays clean in
-        let none = c.in_ok-delete_files.ensures.does.map before inside ours s are o there in
+        let before = inside_after c.in_ok-delete_files.ensures.does.keeps c.delete_object.ensures.does.keeps.stays clean inside ours in
+        let none = c.in_ok-delete_files.ensures.does.map before.clean inside ours s are o there in
         ok_then c.delete_object.result
-        (c.delete_object.ensures.does.map clean (c.in_ok-delete_files.ensures.does.keeps.stays.inside before inside) (c.in_ok-delete_files.ensures.does.keeps.ours before inside ours) (without_files s c.args.object o) none (emptied s c.args.object o))
+        (c.delete_object.ensures.does.map clean before.inside before.ours (without_files s c.args.object o) none (emptied s c.args.object o))
         (λ gone. gone_after (tables_of new) s c.args.object _ gone);
     keeps = changes_then c.in_ok-delete_files.ensures.does.keeps c.delete_object.ensures.does.keeps;
   };

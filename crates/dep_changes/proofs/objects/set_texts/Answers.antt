@@ -1,14 +1,13 @@
-use Rattle.std.proofs.Common.{refl}
 use Rattle.dep_types.specs.State.{State, Object}
-use Rattle.dep_tables.proofs.Chains.{clean_before, stays_put}
+use Rattle.dep_tables.proofs.Chains.{stays_put}
 use Rattle.dep_tables.specs.Tables.{tables_of}
 use Rattle.dep_tables.proofs.Results.{ok_then}
 use Rattle.dep_row_maps.specs.TablesAre.{with_object}
 use Rattle.dep_row_maps.proofs.Lens.{get_here}
 use Rattle.dep_decisions.specs.Effects.{with_texts}
 use Rattle.dep_changes.proofs.Carried.{at_object}
-use Rattle.dep_changes.proofs.Steps.{texts_row, number_is, at_number, there_at, written_again, row_written}
-use Rattle.dep_row_maps.proofs.Changing.{changes_then, does_failed}
+use Rattle.dep_changes.proofs.Steps.{number_is, at_number, there_at, written_again, texts_marked}
+use Rattle.dep_row_maps.proofs.Changing.{changes_then, does_failed, inside_after}
 use Rattle.dep_changes.proofs.objects.set_texts.Goals as goal
 
 pub returns : goal.returns
@@ -16,24 +15,21 @@ returns g c = record {
   map = λ n.
       record {
         done = λ clean inside ours s are reported.
+            let before = inside_after c.in_ok-put_object.ensures.does.keeps c.set_metadata.ensures.does.keeps.stays clean inside ours in
+            let new = g.T.Statements.state c.set_metadata.new.tx in
             let texts = c.args.metadata.now in
             let view = c.args.change.now.view.now in
-            let mid = g.T.Statements.state c.put_object.new.tx in
-            let new = g.T.Statements.state c.set_metadata.new.tx in
-            let before = clean_before c.set_metadata.ensures.does.keeps.stays clean in
-            let numbers = reported.0 in
             let o = reported.1.0 in
             let object = reported.1.1 in
             let row = c.in_ok-row.row in
             let number = number_is s n o view.object object.0 row c.in_ok-row.ensures.reported in
-            let now = c.texts_changed.result in
             let mark : Object = with_texts s o.metadata o in
-            let is = texts_row s n o view.object object.0 row c.in_ok-row.ensures.reported view.clock view.next numbers.0 numbers.1 now o.metadata c.texts_changed.ensures in
-            let put = row_written (tables_of mid) s n o mark now is object.1 refl refl (c.in_ok-put_object.ensures.does.map before inside ours s are mark) in
+            let put = texts_marked (tables_of (g.T.Statements.state c.put_object.new.tx)) s n o view object reported.0 row c.in_ok-row.ensures.reported c.texts_changed.result c.texts_changed.ensures
+            (c.in_ok-put_object.ensures.does.map before.clean inside ours s are mark) in
             let one : State = with_object s n mark in
             at_object s s.uploads new c.set_metadata.result n o (with_texts s texts) object.1
             (ok_then c.set_metadata.result
-            (c.set_metadata.ensures.does.map clean (c.in_ok-put_object.ensures.does.keeps.stays.inside before inside) (c.in_ok-put_object.ensures.does.keeps.ours before inside ours) one put mark (there_at one.objects row.object n mark number (get_here s.objects n mark)))
+            (c.set_metadata.ensures.does.map clean before.inside before.ours one put mark (there_at one.objects row.object n mark number (get_here s.objects n mark)))
             (λ set. written_again (tables_of new) s n mark (with_texts s texts o) (at_number (tables_of new) one row.object n (with_texts s texts o) number set)));
         keeps = changes_then c.in_ok-put_object.ensures.does.keeps c.set_metadata.ensures.does.keeps;
       };

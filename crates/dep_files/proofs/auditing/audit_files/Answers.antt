@@ -5,12 +5,10 @@ use Rattle.std.proofs.lemmas.List.{take_more, take_all}
 use Rattle.std.proofs.lemmas.Grind.{flat_map-append}
 use Rattle.sqlite.specs.Held.{state}
 use Rattle.sqlite.specs.Order.{Row}
-use Rattle.sqlite.specs.State.{HasCleanDisk}
-use Rattle.sqlite.proofs.Callers.{unchanged_then}
 use Rattle.dep_files.proofs.Results.{same_tables}
 use Rattle.dep_tables.specs.Tables.{Tables, tables_of}
 use Rattle.dep_files.specs.Fixity.{HasFixity, KeepsDamaged, number_if_damaged}
-use Rattle.dep_files.proofs.Stills.{IsStill, ours_still, stays_then, still_same}
+use Rattle.dep_files.proofs.Stills.{ours_still, over_err, over_ok, over_then, still_same}
 use Rattle.dep_files.proofs.Digests.{one_more}
 use Rattle.dep_files.proofs.Reported.{passed_on}
 use Rattle.dep_files.proofs.auditing.audit_files.Goals as goal
@@ -18,21 +16,19 @@ use Rattle.dep_files.proofs.auditing.audit_files.Goals as goal
 pub files-init : goal.files-init
 files-init g c =
     let reported = c.in_ok-rows.ensures in
-    (reported.reads.stays, reported.reads.same, λ clean ours. (c.as_slice-row-items.ensures.value ∙ reported.ok clean ours, ([], tt, c.new-damaged.ensures.items)))
+    (over_ok reported.reads, λ clean ours. (c.as_slice-row-items.ensures.value ∙ reported.ok clean ours, ([], tt, c.new-damaged.ensures.items)))
 
 pub files-preserved : goal.files-preserved
 files-preserved g c =
     let old = state g.S.Store c.args.connection.now in
     let mid = state g.S.Store c.files.connection in
-    let new = state g.S.Store c.keep_damaged.new.connection in
     let inv = c.files.invariant in
-    let kept = c.in_ok-keep_damaged.ensures in
-    let earlier = kept.reads.stays.honest in (
-      stays_then inv.0 (λ clean. still_same old mid (inv.1 clean)) kept.reads.stays,
-      λ clean. unchanged_then old mid new (inv.1 (earlier clean)) (kept.reads.same clean),
+    let kept = c.in_ok-keep_damaged.ensures in (
+      over_ok (over_then inv.0 kept.reads),
       λ clean ours.
-          let same = inv.1 (earlier clean) in
-          let done = inv.2 (earlier clean) ours in
+          let before = kept.reads.stays.honest clean in
+          let same = inv.0.same before in
+          let done = inv.1 before ours in
           let noted = kept.notes clean (ours_still old mid (still_same old mid same) ours) in
           let row = c.row-item.result in
           let it = subst (λ (t : Tables). KeepsDamaged t row c.files.damaged.items c.keep_damaged.new.damaged.items) (same_tables old mid same) noted in
@@ -57,7 +53,7 @@ returns g c =
     let whole = take_all c.files.row-index c.as_slice-row-items.result.now c.files-test.false in
     record {
       audits = λ clean ours.
-          let done = inv.2 clean ours in
+          let done = inv.1 clean ours in
           record {
             checked = counted ∙ ap length (sym c.as_slice-row-items.ensures.value ∙ done.0);
             found = done.1.0;
@@ -65,7 +61,7 @@ returns g c =
             damaged = done.1.2;
           };
       cause = λ clean ours. tt;
-      reads = record { stays = inv.0; same = inv.1 };
+      reads = over_ok inv.0;
     }
 
 -- the files were not listed
@@ -73,7 +69,7 @@ pub returns-in_err-rows : goal.returns-in_err-rows
 returns-in_err-rows g c =
     let reported = c.in_err-rows.ensures in
     let passed = passed_on c.from_residual.result c.in_err-rows.field-0.0 c.from_residual.ensures.1 in
-    rw passed record { audits = λ clean ours. tt; cause = λ clean ours. inl (reported.cause clean); reads = record { stays = reported.reads.stays; same = λ clean. tt } }
+    rw passed record { audits = λ clean ours. tt; cause = λ clean ours. inl (reported.cause clean); reads = over_err reported.reads }
 
 -- one was not checked
 pub returns-in_err-keep_damaged : goal.returns-in_err-keep_damaged
@@ -82,15 +78,15 @@ returns-in_err-keep_damaged g c =
     let mid = state g.S.Store c.files.connection in
     let inv = c.files.invariant in
     let reported = c.in_err-keep_damaged.ensures in
-    let still : HasCleanDisk mid → IsStill old mid = λ clean. still_same old mid (inv.1 clean) in
     let passed = passed_on c.from_residual-in_err-keep_damaged.result c.in_err-keep_damaged.field-0.0 c.from_residual-in_err-keep_damaged.ensures.1 in
     rw passed record {
       audits = λ clean ours. tt;
       cause = λ clean ours.
-          let so_far = still (reported.reads.stays.honest clean) in
+          let before = reported.reads.stays.honest clean in
+          let so_far = still_same old mid (inv.0.same before) in
           let failed = reported.cause clean (ours_still old mid so_far ours) in
           let row = c.row-item.result in
           let there = subst (Contains c.as_slice-row-items.result.now) (sym c.row-item.is) (Contains-get_or c.as_slice-row-items.result.now c.files.row-index _ c.files-test.true) in
-          inr (row, subst (λ (l : List Row). Contains l row) (inv.2 (reported.reads.stays.honest clean) ours).0 there, c.files.connection, so_far.now_is, failed);
-      reads = record { stays = stays_then inv.0 still reported.reads.stays; same = λ clean. tt };
+          inr (row, subst (λ (l : List Row). Contains l row) (inv.1 before ours).0 there, c.files.connection, so_far.now_is, failed);
+      reads = over_err (over_then inv.0 reported.reads);
     }

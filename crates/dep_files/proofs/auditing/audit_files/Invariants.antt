@@ -1,11 +1,11 @@
 use Rattle.std.proofs.Common.{◌≡◌, List, take}
 use Rattle.std.specs.List.{AllZip, flat_map}
-use Rattle.sqlite.specs.State.{HasCleanDisk, IsUnchanged}
+use Rattle.sqlite.specs.State.{HasCleanDisk}
 use Rattle.sqlite.specs.Held.{state}
 use Rattle.dep_tables.specs.Tables.{tables_of, IsOurs}
-use Rattle.dep_files.specs.Clauses.{StaysOver}
 use Rattle.dep_files.specs.Fixity.{HasFixity, number_if_damaged, sha256_rows}
 use Rattle.dep_files.specs.declared.auditing.FileFixity.{FileFixity}
+use Rattle.dep_files.proofs.Stills.{HasRead}
 use Rattle.dep_files.proofs.auditing.audit_files.Given as goal
 
 -- the files so far were checked
@@ -13,8 +13,7 @@ abbrev pub invariant-files : goal.invariant-files
 invariant-files g l =
     let old = state g.S.Store l.fn.connection in
     let now = state g.S.Store l.connection in
-    StaysOver g.S.Store l.fn.connection l.connection
-    × (HasCleanDisk now → IsUnchanged old now)
+    HasRead g.S.Store l.fn.connection l.connection
     × (HasCleanDisk now → IsOurs old → (l.row-items ≡ sha256_rows l.fn.object (tables_of old))
     × ((found : List FileFixity) × AllZip (HasFixity (tables_of old)) (take l.row-index l.row-items) found
     × (l.damaged.items ≡ flat_map number_if_damaged found)))

@@ -2,13 +2,14 @@ use Rattle.std.proofs.Common.{refl}
 use Rattle.dep_files.specs.Causes.FailsToCheck.{not_found, not_noted}
 use Rattle.dep_types.specs.declared.store_fault.StoreFault.TheVariants.{Memory}
 use Rattle.dep_files.proofs.Reported.{passed_on}
+use Rattle.dep_files.proofs.Stills.{over_err, over_ok}
 use Rattle.dep_files.proofs.auditing.keep_damaged.Goals as goal
 
 pub returns-in_err-found : goal.returns-in_err-found
 returns-in_err-found g c =
     let reported = c.in_err-found.ensures in
     let passed = passed_on c.from_residual.result c.in_err-found.field-0.0 c.from_residual.ensures.1 in
-    rw passed record { notes = λ clean ours. tt; cause = λ clean ours. not_found (reported.cause clean ours); reads = record { stays = reported.reads.stays; same = λ clean. tt } }
+    rw passed record { notes = λ clean ours. tt; cause = λ clean ours. not_found (reported.cause clean ours); reads = over_err reported.reads }
 
 pub returns : goal.returns
 returns g c =
@@ -16,7 +17,7 @@ returns g c =
     record {
       notes = λ clean ours. record { found = c.in_ok-found.found; its = reported.ok clean ours; noted = c.in_ok-note.ensures.ok };
       cause = λ clean ours. tt;
-      reads = record { stays = reported.reads.stays; same = reported.reads.same };
+      reads = over_ok reported.reads;
     }
 
 -- there was no memory to note it
@@ -27,5 +28,5 @@ returns-in_err-note g c =
     rw passed record {
       notes = λ clean ours. tt;
       cause = λ clean ours. not_noted c.in_ok-found.found (reported.ok clean ours) c.in_err-note.ensures.cause refl;
-      reads = record { stays = reported.reads.stays; same = λ clean. tt };
+      reads = over_err reported.reads;
     }

@@ -4,24 +4,23 @@ use Rattle.dep_tables.proofs.Chains.{clean_before, stays_then, stays_ok}
 use Rattle.dep_tables.specs.Tables.{tables_of}
 use Rattle.dep_files.proofs.FileCalls.{one_more_gone}
 use Rattle.dep_row_maps.proofs.Calling.{tables_failed}
+use Rattle.dep_row_maps.proofs.Changing.{tables_after, tables_by}
 use Rattle.dep_files.proofs.files.delete_contents.Goals as goal
 
 pub rows-preserved : goal.rows-preserved
 rows-preserved g c =
-    let old = g.T.Statements.state c.args.tx.now in
-    let mid = g.T.Statements.state c.rows.tx in
-    let one = g.T.Statements.state c.delete_blocks.new.tx in
-    let new = g.T.Statements.state c.delete_sha512.new.tx in
     let inv = c.rows.invariant in
+    let one = tables_after c.in_ok-delete_blocks.ensures.does (tables_by c.in_ok-delete_sha512.ensures.does) in
     let within : c.rows.row-index < length c.args.rows.now = omega arith in (
-      stays_ok (stays_then (stays_then inv.0 c.in_ok-delete_blocks.ensures.does.stays) c.in_ok-delete_sha512.ensures.does.keeps.stays),
+      stays_ok (stays_then inv.0 one.stays),
       λ clean inside ours.
-          let clean_one = clean_before c.delete_sha512.ensures.does.keeps.stays clean in
-          let before = clean_before c.delete_blocks.ensures.does.stays clean_one in
+          let before = clean_before one.stays clean in
           let was = inv.1 before inside ours in
-          let first = c.in_ok-delete_blocks.ensures.does.ok clean_one (inv.0.inside before inside) was.ours in
-          let second = c.in_ok-delete_sha512.ensures.does.ok clean ((stays_then inv.0 c.in_ok-delete_blocks.ensures.does.stays).inside clean_one inside) first.ours in
-          record { ours = second.ours; rows = one_more_gone (tables_of old) (tables_of mid) (tables_of one) (tables_of new) c.args.rows.now c.rows.row-index _ within c.row-item.is was.rows first.rows second.rows },
+          let gone = one.ok clean (inv.0.inside before inside) was.ours in
+          record {
+            ours = gone.ours;
+            rows = one_more_gone (tables_of (g.T.Statements.state c.args.tx.now)) (tables_of (g.T.Statements.state c.rows.tx)) (tables_of (g.T.Statements.state c.delete_sha512.new.tx)) c.args.rows.now c.rows.row-index _ within c.row-item.is was.rows gone.rows;
+          },
     )
 
 pub returns-in_err-delete_blocks : goal.returns-in_err-delete_blocks

@@ -4,25 +4,23 @@ use Rattle.std.specs.List.{AllZip}
 use Rattle.std.proofs.lemmas.List.{take_all, take_more}
 use Rattle.std.proofs.lemmas.Slice.Zip.{all_zipped_more}
 use Rattle.dep_types.specs.declared.rows.FileRow.{FileRow}
-use Rattle.dep_tables.proofs.Chains.{clean_before, may_ok, may_read, may_then, may_err, still_ours}
-use Rattle.dep_files.proofs.FileValues.{IsValueOf, still_seen, values_are}
+use Rattle.dep_tables.proofs.Chains.{may_ok, may_read, may_then, may_err}
+use Rattle.dep_files.proofs.Behind.{behind_any}
+use Rattle.dep_files.proofs.FileValues.{IsValueOf, values_are}
 use Rattle.dep_files.proofs.Results.{pushed}
 use Rattle.dep_files.proofs.loading.load_sha512s.Goals as goal
 
 pub rows-preserved : goal.rows-preserved
 rows-preserved g c =
-    let old = g.T.Statements.state c.args.tx.now in
-    let mid = g.T.Statements.state c.rows.tx in
-    let inv = c.rows.invariant in
-    let earlier = clean_before c.load_sha512.ensures.does.keeps.stays in (
+    let inv = c.rows.invariant in (
       may_ok (may_then {r = Ok c.in_ok-value.value} inv.0 (may_read c.in_ok-value.ensures.does.keeps)),
       λ is_open clean ours s are.
-          let same = inv.0.same is_open (earlier clean) ours in
-          let so_far = inv.1 is_open (earlier clean) ours s are in
+          let mid = behind_any inv.0 c.load_sha512.ensures.does.keeps.stays is_open clean ours s are in
+          let so_far = inv.1 is_open mid.clean ours s are in
           let rows = c.args.rows.now in
           let before = c.rows.values.items in
           let value = c.in_ok-value.value in
-          let its = c.in_ok-value.ensures.does.map clean (still_ours old mid same ours) s (still_seen old mid s same are) in
+          let its = c.in_ok-value.ensures.does.map clean mid.ours s mid.are in
           let grown = pushed c.push.result c.push.new.self.items (before ++ value ∷ []) before (ap is_err c.in_ok-push.was) c.push.ensures.items in
           let next = take_more rows c.rows.row-index c.row-item.result c.rows-test.true ∙ ap (λ (r : FileRow). take c.rows.row-index rows ++ r ∷ []) (sym c.row-item.is) in
           subst (λ l. AllZip (IsValueOf s) l c.push.new.self.items) (sym next)

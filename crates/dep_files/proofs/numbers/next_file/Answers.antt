@@ -3,11 +3,12 @@ use Rattle.dep_statements.specs.Rows.{columns_from}
 use Rattle.sqlite.specs.Held.{state}
 use Rattle.dep_tables.specs.Clauses.{AtMostOne, IsFaultAt}
 use Rattle.dep_tables.specs.Rows.{IsNumberRow}
-use Rattle.dep_tables.proofs.Results.{if_ok, if_then, if_err}
+use Rattle.dep_tables.proofs.Results.{if_then, if_err}
 use Rattle.dep_files.specs.Causes.FailsToFindFile.{not_reported}
 use Rattle.dep_files.proofs.KnownTables.{nexts_file}
 use Rattle.dep_files.proofs.Queries.{files_read}
 use Rattle.dep_files.proofs.Reported.{passed_on}
+use Rattle.dep_files.proofs.Stills.{over_err, over_ok}
 use Rattle.dep_files.proofs.numbers.next_file.Goals as goal
 
 pub ask-requires : goal.ask-requires
@@ -23,11 +24,11 @@ returns g c =
           (λ found read. nexts_file old new c.args.after found _ known (reported.shows clean) (read ∙ ap (map (columns_from 0 1)) c.as_slice.ensures.value));
       cause = λ clean. if_err c.only.result c.only.ensures.refused
           (λ fault it. not_reported (inr (_, reported.shows clean, subst (λ rows. IsFaultAt ⊥ (AtMostOne IsNumberRow) rows fault) c.as_slice.ensures.value it)));
-      reads = record { stays = reported.reads.stays; same = λ clean. if_ok c.only.result (reported.reads.same clean) };
+      reads = over_ok reported.reads;
     }
 
 pub returns-in_err-rows : goal.returns-in_err-rows
 returns-in_err-rows g c =
     let reported = rw c.key_param.ensures at c.in_err-rows.ensures in
     let passed = passed_on c.from_residual.result c.in_err-rows.field-0.0 c.from_residual.ensures.1 in
-    rw passed record { ok = λ clean known. tt; cause = λ clean. not_reported (inl (reported.cause clean)); reads = record { stays = reported.reads.stays; same = λ clean. tt } }
+    rw passed record { ok = λ clean known. tt; cause = λ clean. not_reported (inl (reported.cause clean)); reads = over_err reported.reads }

@@ -1,12 +1,12 @@
 use Rattle.std.proofs.Common.{◌≡◌, true, is_ok, rules, ◌+◌, inl, inr, refl, sym, subst, arith}
 use Rattle.sqlite.specs.Held.{state}
-use Rattle.dep_tables.specs.Tables.{Tables, tables_of}
+use Rattle.dep_tables.specs.Tables.{tables_of}
 use Rattle.dep_files.specs.Causes.FailsToFindFile.{no_number}
 use Rattle.dep_files.specs.Causes.FailsToHashNext.{no_file}
 use Rattle.dep_files.specs.Sha512s.{IsValueAfter}
-use Rattle.dep_files.proofs.Stills.{known_still, stays_itself, stays_then, still_itself, still_same, still_then, tables_still}
+use Rattle.dep_files.proofs.Stills.{known_still, stays_itself, stays_then, still_itself, still_same, still_then}
 use Rattle.dep_files.proofs.KnownTables.{known_files_ordered}
-use Rattle.dep_files.proofs.Valued.{AreValuesTo, no_values, one_more, all_valued}
+use Rattle.dep_files.proofs.Valued.{AreValuesTo, no_values, one_more, all_valued, value_after}
 use Rattle.dep_types.specs.declared.store_fault.StoreFault.TheVariants.{Memory}
 use Rattle.dep_files.proofs.Reported.{passed_on}
 use Rattle.dep_files.proofs.upgrading.hash_files.Goals as goal
@@ -32,9 +32,7 @@ files-preserved g c =
       λ clean. still_same old new (still_then old mid new (inv.1 (earlier clean)) (reported.reads.same clean)),
       λ clean known.
           let before = earlier clean in
-          let still = inv.1 before in
-          let next = subst (λ (t : Tables). IsValueAfter t c.files.last c.in_ok-value.field-0) (tables_still old mid still) (reported.ok clean (known_still old mid still known)) in
-          let some = subst (IsValueAfter (tables_of old) c.files.last) c.in-Some.is next in
+          let some = subst (IsValueAfter (tables_of old) c.files.last) c.in-Some.is (value_after old mid c.files.last c.in_ok-value.field-0 (inv.1 before) known (reported.ok clean)) in
           subst (λ vs. AreValuesTo (tables_of old) vs c.in-Some.value.file (c.files.counter + 1)) (sym (rw pushed at c.push.ensures.items))
           (one_more (tables_of old) c.files.values.items c.files.last c.files.counter c.in-Some.value (known_files_ordered old known) (inv.2 before known) some),
     )
@@ -42,20 +40,20 @@ files-preserved g c =
 -- no file is left
 pub returns-in_default : goal.returns-in_default
 returns-in_default g c =
+    let reported = c.in_ok-value.ensures in
+    let inv = c.files.invariant in
     let old = state g.S.Store c.args.connection.now in
     let mid = state g.S.Store c.files.connection in
-    let new = state g.S.Store c.next_value.new.connection in
-    let inv = c.files.invariant in
-    let reported = c.in_ok-value.ensures in
-    let earlier = reported.reads.stays.honest in
     record {
       hashes = λ clean known.
-          let before = earlier clean in
-          let still = inv.1 before in
-          let next = subst (λ (t : Tables). IsValueAfter t c.files.last c.in_ok-value.field-0) (tables_still old mid still) (reported.ok clean (known_still old mid still known)) in
+          let before = reported.reads.stays.honest clean in
+          let next = value_after old mid c.files.last c.in_ok-value.field-0 (inv.1 before) known (reported.ok clean) in
           all_valued (tables_of old) c.files.values.items c.files.last c.files.counter (inv.2 before known) (subst (IsValueAfter (tables_of old) c.files.last) c.in_default.is next);
       cause = λ clean known. tt;
-      reads = record { stays = stays_then inv.0 inv.1 reported.reads.stays; same = λ clean. still_then old mid new (inv.1 (earlier clean)) (reported.reads.same clean) };
+      reads = record {
+        stays = stays_then inv.0 inv.1 reported.reads.stays;
+        same = λ clean. still_then old mid (state g.S.Store c.next_value.new.connection) (inv.1 (reported.reads.stays.honest clean)) (reported.reads.same clean);
+      };
     }
 
 -- one could not be kept
@@ -70,8 +68,7 @@ returns-in_err-push g c =
       hashes = λ clean known. tt;
       cause = λ clean known.
           let before = reported.reads.stays.honest clean in
-          let still = inv.1 before in
-          let next = subst (λ (t : Tables). IsValueAfter t c.files.last c.in_ok-value.field-0) (tables_still old mid still) (reported.ok clean (known_still old mid still known)) in
+          let next = value_after old mid c.files.last c.in_ok-value.field-0 (inv.1 before) known (reported.ok clean) in
           (c.files.last, (inv.2 before known).reached, inr (c.in-Some.value, subst (IsValueAfter (tables_of old) c.files.last) c.in-Some.is next, refl));
       reads = record { stays = stays_then inv.0 inv.1 reported.reads.stays; same = λ clean. tt };
     }

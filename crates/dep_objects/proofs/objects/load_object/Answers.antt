@@ -1,11 +1,10 @@
-use Rattle.dep_tables.proofs.Chains.{clean_before, reads_ok, reads_then, reads_err, still_ours}
+use Rattle.dep_tables.proofs.Chains.{reads_ok, reads_then, reads_err}
 use Rattle.std.proofs.Common.{ℕ, sym, subst, ◌∙◌}
 use Rattle.std.proofs.lemmas.Result.{IfOk-from_err}
 use Rattle.dep_tables.specs.Tables.{tables_of}
-use Rattle.dep_row_maps.specs.TablesAre.{TablesAre}
 use Rattle.dep_row_maps.proofs.Readings.{object_read}
 use Rattle.dep_objects.specs.Objects.{IsDescribed}
-use Rattle.dep_files.proofs.Results.{same_tables}
+use Rattle.dep_files.proofs.Behind.{behind}
 use Rattle.dep_objects.proofs.Puts.{has_row, its_number, none_described}
 use Rattle.dep_objects.proofs.objects.load_object.Goals as goal
 
@@ -22,14 +21,10 @@ pub returns : goal.returns
 returns g c = record {
   does = record {
     found = λ clean inside ours s are sound.
-        let old = g.T.Statements.state c.args.tx.now in
-        let mid = g.T.Statements.state c.find_object.new.tx in
-        let before = clean_before c.describe.ensures.does.keeps.stays clean in
-        let same = c.in_ok-row.ensures.does.keeps.same before ours in
-        let found = sym c.in-Some.is ∙ object_read (tables_of old) s are c.args.object c.in_ok-row.field-0 (c.in_ok-row.ensures.does.ok before ours) in
-        let here = subst (λ t. TablesAre t s) (sym (same_tables old mid same)) are in
+        let mid = behind c.in_ok-row.ensures.does.keeps c.describe.ensures.does.keeps.stays clean ours s are in
+        let found = sym c.in-Some.is ∙ object_read (tables_of (g.T.Statements.state c.args.tx.now)) s are c.args.object c.in_ok-row.field-0 (c.in_ok-row.ensures.does.ok mid.clean ours) in
         subst (λ (n : ℕ). IsDescribed s n c.in_ok-described.described) (its_number s c.args.object c.in-Some.row found)
-        (c.in_ok-described.ensures.does.found clean (c.in_ok-row.ensures.does.keeps.stays.inside before inside) (still_ours old mid same ours) s here sound (has_row s c.args.object c.in-Some.row found));
+        (c.in_ok-described.ensures.does.found clean (c.in_ok-row.ensures.does.keeps.stays.inside mid.clean inside) mid.ours s mid.are sound (has_row s c.args.object c.in-Some.row found));
     keeps = reads_ok (reads_then c.in_ok-row.ensures.does.keeps c.in_ok-described.ensures.does.keeps);
   };
 }

@@ -1,49 +1,31 @@
-use Rattle.std.proofs.Common.{refl, subst}
-use Rattle.dep_tables.specs.Edits.{IsFirstBlock}
+use Rattle.std.proofs.Common.{subst}
+use Rattle.dep_tables.specs.Edits.{IsFirstBlock, with_blocks_moved}
 use Rattle.dep_tables.specs.Tables.{tables_of}
-use Rattle.dep_tables.proofs.Chains.{clean_before, stays_then, stays_ok, still_ours, stays_put}
-use Rattle.dep_row_maps.proofs.Runs.{one_run_moved, all_moved}
-use Rattle.dep_files.proofs.Results.{same_tables}
 use Rattle.dep_tables.specs.declared.owner.BlockOwner.TheVariants as owner
+use Rattle.dep_tables.proofs.Chains.{stays_then}
 use Rattle.dep_row_maps.proofs.FilesOwn.{no_upload}
+use Rattle.dep_row_maps.proofs.Runs.{moved_none, moved_rest}
 use Rattle.dep_row_maps.proofs.Calling.{tables_failed}
 use Rattle.dep_row_maps.proofs.Changing.{tables_then}
+use Rattle.dep_files.proofs.RunByRun.{no_run, no_more_run, one_run}
 use Rattle.dep_staging.proofs.assembling.move_content.Goals as goal
 
 pub runs-init : goal.runs-init
-runs-init g c = (stays_put g.T.Statements.lenders g.T.Statements.state c.args.tx.now _, λ clean inside ours. (ours, refl))
+runs-init g c = no_run (with_blocks_moved (owner.Upload c.args.upload) (owner.File c.args.file)) c.args.tx.now
 
 pub runs-preserved : goal.runs-preserved
 runs-preserved g c =
-    let old = g.T.Statements.state c.args.tx.now in
-    let mid = g.T.Statements.state c.runs.tx in
-    let seen = g.T.Statements.state c.first_block.new.tx in
-    let new = g.T.Statements.state c.move_run.new.tx in
-    let inv = c.runs.invariant in
-    let saw = stays_then inv.0 c.in_ok-start.ensures.does.keeps.stays in (
-      stays_ok (stays_then saw c.in_ok-move_run.ensures.does.keeps.stays),
-      λ clean inside ours.
-          let before = clean_before c.move_run.ensures.does.keeps.stays clean in
-          let was = inv.1 (clean_before c.first_block.ensures.does.keeps.stays before) inside ours in
-          let same = c.in_ok-start.ensures.does.keeps.same before was.0 in
-          let leads = c.in_ok-move_run.ensures.does.ok clean (saw.inside before inside) (still_ours mid seen same was.0) in
-          (leads.ours, one_run_moved (record { owner = owner.Upload c.args.upload; at = c.run_end-at.result }) (owner.File c.args.file) (no_upload c.args.upload c.args.file) (tables_of old) (tables_of mid) (tables_of seen) (tables_of new) was.1 (same_tables mid seen same) leads.rows),
-    )
+    one_run (with_blocks_moved (owner.Upload c.args.upload) (owner.File c.args.file)) c.runs.invariant c.in_ok-start.ensures.does.keeps c.in_ok-move_run.ensures.does
+    (moved_rest (record { owner = owner.Upload c.args.upload; at = c.run_end-at.result }) (owner.File c.args.file) (no_upload c.args.upload c.args.file))
 
 pub returns-in_default : goal.returns-in_default
-returns-in_default g c = record {
-  does = record {
-    ok = λ clean inside ours.
-        let old = g.T.Statements.state c.args.tx.now in
-        let mid = g.T.Statements.state c.runs.tx in
-        let seen = g.T.Statements.state c.first_block.new.tx in
-        let was = c.runs.invariant.1 (clean_before c.first_block.ensures.does.keeps.stays clean) inside ours in
-        let same = c.in_ok-start.ensures.does.keeps.same clean was.0 in
-        let none = subst (IsFirstBlock (owner.Upload c.args.upload) (tables_of mid)) c.in_default.is (c.in_ok-start.ensures.does.ok clean was.0) in
-        record { ours = still_ours mid seen same was.0; rows = all_moved (owner.Upload c.args.upload) (owner.File c.args.file) (tables_of old) (tables_of mid) (tables_of seen) was.1 (same_tables mid seen same) none };
-    stays = stays_ok (stays_then c.runs.invariant.0 c.in_ok-start.ensures.does.keeps.stays);
-  };
-}
+returns-in_default g c =
+    let from = owner.Upload c.args.upload in
+    let mid = tables_of (g.T.Statements.state c.runs.tx) in
+    record {
+      does = no_more_run (with_blocks_moved from (owner.File c.args.file)) c.runs.invariant c.in_ok-start.ensures.does.keeps
+          (λ clean ours. moved_none from (owner.File c.args.file) mid (subst (IsFirstBlock from mid) c.in_default.is (c.in_ok-start.ensures.does.ok clean ours)));
+    }
 
 pub returns : goal.returns
 returns g c = record { does = tables_then c.runs.invariant.0 c.runs.invariant.1 c.move_blocks.ensures.does }

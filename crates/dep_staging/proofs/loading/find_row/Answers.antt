@@ -1,6 +1,6 @@
 use Rattle.dep_tables.specs.Tables.{tables_of}
-use Rattle.dep_tables.proofs.Chains.{clean_before, reads_ok, reads_then, still_ours}
-use Rattle.dep_files.proofs.Results.{same_tables}
+use Rattle.dep_tables.proofs.Chains.{reads_ok, reads_then}
+use Rattle.dep_files.proofs.Behind.{behind}
 use Rattle.dep_staging.proofs.Loaded.{none_found, row_found}
 use Rattle.dep_row_maps.proofs.Calling.{reads_failed}
 use Rattle.dep_staging.proofs.loading.find_row.Goals as goal
@@ -18,12 +18,9 @@ pub returns : goal.returns
 returns g c = record {
   does = record {
     map = λ clean ours s are.
-        let old = g.T.Statements.state c.args.tx.now in
-        let mid = g.T.Statements.state c.find_upload.new.tx in
-        let before = clean_before c.find_sha512.ensures.does.keeps.stays clean in
-        let same = c.in_ok-columns.ensures.does.keeps.same before ours in
-        row_found (tables_of old) (tables_of mid) s c.args.upload c.in_ok-columns.field-0 c.in-Some.columns _ are c.in-Some.is (c.in_ok-columns.ensures.does.ok before ours) (same_tables old mid same)
-        (c.in_ok-find_sha512.ensures.does.ok clean (still_ours old mid same ours));
+        let seen = behind c.in_ok-columns.ensures.does.keeps c.find_sha512.ensures.does.keeps.stays clean ours s are in
+        row_found (tables_of (g.T.Statements.state c.args.tx.now)) (tables_of (g.T.Statements.state c.find_upload.new.tx)) s c.args.upload c.in_ok-columns.field-0 c.in-Some.columns _ are c.in-Some.is
+        (c.in_ok-columns.ensures.does.ok seen.clean ours) seen.tables (c.in_ok-find_sha512.ensures.does.ok clean seen.ours);
     keeps = reads_ok (reads_then c.in_ok-columns.ensures.does.keeps c.in_ok-find_sha512.ensures.does.keeps);
   };
 }

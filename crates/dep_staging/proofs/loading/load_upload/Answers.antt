@@ -1,8 +1,7 @@
-use Rattle.std.proofs.Common.{sym, subst, ◌∙◌}
-use Rattle.dep_tables.specs.Tables.{Tables, tables_of}
-use Rattle.dep_tables.proofs.Chains.{clean_before, reads_ok, reads_then, still_ours}
-use Rattle.dep_row_maps.specs.TablesAre.{TablesAre}
-use Rattle.dep_files.proofs.Results.{same_tables}
+use Rattle.std.proofs.Common.{sym, ◌∙◌}
+use Rattle.dep_tables.specs.Tables.{tables_of}
+use Rattle.dep_tables.proofs.Chains.{reads_ok, reads_then}
+use Rattle.dep_files.proofs.Behind.{behind}
 use Rattle.dep_staging.proofs.Loaded.{found_live}
 use Rattle.dep_row_maps.proofs.Calling.{reads_failed}
 use Rattle.dep_staging.proofs.loading.load_upload.Goals as goal
@@ -11,12 +10,9 @@ pub returns-in_ok-segments_of-in-Live : goal.returns-in_ok-segments_of-in-Live
 returns-in_ok-segments_of-in-Live g c = record {
   does = record {
     map = λ clean ours s are.
-        let old = g.T.Statements.state c.args.tx.now in
-        let mid = g.T.Statements.state c.find_staged.new.tx in
-        let before = clean_before c.segments_of.ensures.does.keeps.stays clean in
-        let same = c.in_ok-row.ensures.does.keeps.same before ours in
-        found_live s c.args.upload (tables_of mid) (record { row = c.in-Live.row; received = c.in_ok-segments_of-in-Live.field-0 }) (subst (λ (t : Tables). TablesAre t s) (sym (same_tables old mid same)) are)
-        (sym c.in-Live.is ∙ c.in_ok-row.ensures.does.map before ours s are) (c.in_ok-segments_of-in-Live.ensures.does.ok clean (still_ours old mid same ours));
+        let mid = behind c.in_ok-row.ensures.does.keeps c.segments_of.ensures.does.keeps.stays clean ours s are in
+        found_live s c.args.upload (tables_of (g.T.Statements.state c.find_staged.new.tx)) (record { row = c.in-Live.row; received = c.in_ok-segments_of-in-Live.field-0 }) mid.are
+        (sym c.in-Live.is ∙ c.in_ok-row.ensures.does.map mid.clean ours s are) (c.in_ok-segments_of-in-Live.ensures.does.ok clean mid.ours);
     keeps = reads_ok (reads_then c.in_ok-row.ensures.does.keeps c.in_ok-segments_of-in-Live.ensures.does.keeps);
   };
 }

@@ -1,9 +1,8 @@
-use Rattle.std.proofs.Common.{sym, ap, subst, length, drop, arith}
+use Rattle.std.proofs.Common.{ap, subst, length, drop, arith}
 use Rattle.std.proofs.lemmas.Result.{IfOk-from_err}
 use Rattle.dep_tables.specs.Tables.{Tables}
-use Rattle.dep_tables.proofs.Chains.{clean_before, still_ours, may_put, may_ok, may_then, may_read, may_err}
-use Rattle.dep_row_maps.specs.TablesAre.{TablesAre}
-use Rattle.dep_files.proofs.Results.{same_tables}
+use Rattle.dep_tables.proofs.Chains.{may_put, may_ok, may_then, may_read, may_err}
+use Rattle.dep_files.proofs.Behind.{behind_any}
 use Rattle.dep_staging.specs.NextBytes.{Grows}
 use Rattle.dep_staging.proofs.NextBytes.{ended_front, front_grows, longer, nothing_first, some_front}
 use Rattle.dep_staging.proofs.reading_on.bytes_by.Goals as goal
@@ -19,18 +18,14 @@ loop-round-init g c = (
 
 pub loop-round-preserved : goal.loop-round-preserved
 loop-round-preserved g c =
-    let old = g.T.Statements.state c.args.tx.now in
-    let mid = g.T.Statements.state c.loop-round.tx in
-    let inv = c.loop-round.invariant in
-    let earlier = clean_before c.append_next.ensures.does.keeps.stays in (
+    let inv = c.loop-round.invariant in (
       omega (arith, c.loop-round-test.true),
       may_ok (may_then inv.1 (may_read c.in_ok-append_next.ensures.does.keeps)),
       λ is_open clean ours s h all is.
-          let same = inv.1.same is_open (earlier clean) ours in
-          let are_mid = subst (λ (t : Tables). TablesAre t s) (sym (same_tables old mid same)) h in
-          let grows = subst (λ (t : Tables). Grows t s c.args.file c.args.size c.args.start c.loop-round.bytes c.append_next.new.bytes c.in_ok-append_next.field-0) (same_tables old mid same)
-          (c.in_ok-append_next.ensures.does.map clean (still_ours old mid same ours) s are_mid) h all is in
-          let so_far = inv.2 is_open (earlier clean) ours s h all is in (
+          let mid = behind_any inv.1 c.append_next.ensures.does.keeps.stays is_open clean ours s h in
+          let grows = subst (λ (t : Tables). Grows t s c.args.file c.args.size c.args.start c.loop-round.bytes c.append_next.new.bytes c.in_ok-append_next.field-0) mid.tables
+          (c.in_ok-append_next.ensures.does.map clean mid.ours s mid.are) h all is in
+          let so_far = inv.2 is_open mid.clean ours s h all is in (
             front_grows all c.args.start c.loop-round.bytes.items c.append_next.new.bytes.items c.in_ok-append_next.field-0 so_far.0 grows,
             λ later. longer all c.args.start c.loop-round.bytes.items c.append_next.new.bytes.items c.in_ok-append_next.field-0 c.if-not-branch.false grows,
             let few = grows.few in omega (arith, few, so_far.2),
@@ -41,15 +36,10 @@ pub returns-then-not-branch : goal.returns-then-not-branch
 returns-then-not-branch g c = record {
   does = record {
     map = λ is_open clean ours s are h all is.
-        let old = g.T.Statements.state c.args.tx.now in
-        let mid = g.T.Statements.state c.loop-round.tx in
-        let inv = c.loop-round.invariant in
-        let earlier = clean_before c.append_next.ensures.does.keeps.stays in
-        let same = inv.1.same is_open (earlier clean) ours in
-        let are_mid = subst (λ (t : Tables). TablesAre t s) (sym (same_tables old mid same)) h in
-        let grows = subst (λ (t : Tables). Grows t s c.args.file c.args.size c.args.start c.loop-round.bytes c.append_next.new.bytes c.in_ok-append_next.field-0) (same_tables old mid same)
-        (c.in_ok-append_next.ensures.does.map clean (still_ours old mid same ours) s are_mid) h all is in
-        let so_far = inv.2 is_open (earlier clean) ours s h all is in
+        let mid = behind_any c.loop-round.invariant.1 c.append_next.ensures.does.keeps.stays is_open clean ours s h in
+        let grows = subst (λ (t : Tables). Grows t s c.args.file c.args.size c.args.start c.loop-round.bytes c.append_next.new.bytes c.in_ok-append_next.field-0) mid.tables
+        (c.in_ok-append_next.ensures.does.map clean mid.ours s mid.are) h all is in
+        let so_far = c.loop-round.invariant.2 is_open mid.clean ours s h all is in
         ended_front all c.args.start c.loop-round.bytes.items c.append_next.new.bytes.items c.in_ok-append_next.field-0 c.if-not-branch.true so_far.0 (omega (arith, so_far.2, c.loop-round-test.true)) grows;
     keeps = may_ok (may_then c.loop-round.invariant.1 (may_read c.in_ok-append_next.ensures.does.keeps));
   };

@@ -2,9 +2,8 @@ use Rattle.std.proofs.Common.{◌<◌, ◌∙◌, Some, sym, subst, refl, arith}
 use Rattle.std.proofs.lemmas.Result.{IfOk-weaker}
 use Rattle.dep_tables.specs.Tables.{Tables}
 use Rattle.dep_tables.specs.declared.owner.BlockOwner.TheVariants as owner
-use Rattle.dep_tables.proofs.Chains.{clean_before, still_ours, may_ok, may_read, may_then}
-use Rattle.dep_row_maps.specs.TablesAre.{TablesAre}
-use Rattle.dep_files.proofs.Results.{same_tables}
+use Rattle.dep_tables.proofs.Chains.{may_ok, may_read, may_then}
+use Rattle.dep_files.proofs.Behind.{behind_any}
 use Rattle.dep_files.proofs.FileCalls.{file_is}
 use Rattle.dep_staging.specs.FileBlocks.{part_of}
 use Rattle.dep_staging.specs.NextBytes.{Counts, Fronts, IsNext}
@@ -27,12 +26,8 @@ pub returns-then-size-eq0 : goal.returns-then-size-eq0
 returns-then-size-eq0 g c = record {
   does = record {
     map = λ is_open clean ours s are object its held.
-        let old = g.T.Statements.state c.args.tx.now in
-        let mid = g.T.Statements.state c.bytes_by.new.tx in
-        let before = clean_before c.in_ok-size.ensures.does.keeps.stays clean in
-        let same = c.in_ok-first.ensures.does.keeps.same is_open before ours in
-        let are_mid = subst (λ (t : Tables). TablesAre t s) (sym (same_tables old mid same)) are in
-        let counts = subst (λ (t : Tables). Counts t s c.args.file c.in_ok-size.size) (same_tables old mid same) (c.in_ok-size.ensures.does.map clean (still_ours old mid same ours) s are_mid) are in
+        let mid = behind_any c.in_ok-first.ensures.does.keeps c.in_ok-size.ensures.does.keeps.stays is_open clean ours s are in
+        let counts = subst (λ (t : Tables). Counts t s c.args.file c.in_ok-size.size) mid.tables (c.in_ok-size.ensures.does.map clean mid.ours s mid.are) are in
         let has = are.common.files_parts.of_files object c.args.file its (file_is s object c.args.file ∙ held) in
         subst (IsNext its.content c.args.start) (sym (none_if c.in_ok-first.first.items _ c.is_empty.result c.is_empty.ensures c.if-not-is_empty.false c.in_ok-first.first.ok.0))
         (none_next (are.common.parts (owner.File c.args.file)) its.content has.size has.some has.cut c.args.start (omega (arith, counts, c.if-size-eq0.true)));
@@ -44,25 +39,16 @@ pub returns : goal.returns
 returns g c = record {
   does = record {
     map = λ is_open clean ours s are.
-        let old = g.T.Statements.state c.args.tx.now in
-        let mid = g.T.Statements.state c.bytes_by.new.tx in
-        let late = g.T.Statements.state c.first_size.new.tx in
-        let before = clean_before c.bytes_by-2.ensures.does.keeps.stays clean in
-        let earlier = clean_before c.in_ok-size.ensures.does.keeps.stays before in
-        let same = c.in_ok-first.ensures.does.keeps.same is_open earlier ours in
-        let ours_mid = still_ours old mid same ours in
-        let are_mid = subst (λ (t : Tables). TablesAre t s) (sym (same_tables old mid same)) are in
-        let still = c.in_ok-size.ensures.does.keeps.same before ours_mid in
-        let are_late = subst (λ (t : Tables). TablesAre t s) (sym (same_tables mid late still)) are_mid in
-        let unchanged = same_tables mid late still ∙ same_tables old mid same in
-        let counts = subst (λ (t : Tables). Counts t s c.args.file c.in_ok-size.size) (same_tables old mid same) (c.in_ok-size.ensures.does.map before ours_mid s are_mid) are in
+        let late = behind_any (may_then c.in_ok-first.ensures.does.keeps (may_read c.in_ok-size.ensures.does.keeps)) c.bytes_by-2.ensures.does.keeps.stays is_open clean ours s are in
+        let mid = behind_any c.in_ok-first.ensures.does.keeps c.in_ok-size.ensures.does.keeps.stays is_open late.clean ours s are in
+        let counts = subst (λ (t : Tables). Counts t s c.args.file c.in_ok-size.size) mid.tables (c.in_ok-size.ensures.does.map late.clean mid.ours s mid.are) are in
         IfOk-weaker c.bytes_by-2.result _ _
         (λ bytes fronts. λ object its held.
         let has = are.common.files_parts.of_files object c.args.file its (file_is s object c.args.file ∙ held) in
         let some : 0 < c.in_ok-size.size = omega (arith, c.if-size-eq0.false) in
         let cut = cut_by_first (are.common.parts (owner.File c.args.file)) its.content has.size has.some has.cut c.in_ok-size.size counts some in
-        is_next its.content c.args.start bytes.items (subst (λ (t : Tables). Fronts t s c.args.file (Some c.in_ok-size.size) c.args.start bytes) unchanged fronts are its.content (some, cut)))
-        (c.bytes_by-2.ensures.does.map still.0.is_open clean (still_ours mid late still ours_mid) s are_late);
+        is_next its.content c.args.start bytes.items (subst (λ (t : Tables). Fronts t s c.args.file (Some c.in_ok-size.size) c.args.start bytes) late.tables fronts are its.content (some, cut)))
+        (c.bytes_by-2.ensures.does.map late.same.0.is_open clean late.ours s late.are);
     keeps = may_then (may_then c.in_ok-first.ensures.does.keeps (may_read c.in_ok-size.ensures.does.keeps)) c.bytes_by-2.ensures.does.keeps;
   };
 }

@@ -9,30 +9,25 @@ use Rattle.dep_row_maps.specs.TablesAre.{TablesAre, with_upload}
 use Rattle.dep_row_maps.proofs.Lens.{get_here, insert_twice}
 use Rattle.dep_staging.proofs.Lacking.{lacked}
 use Rattle.dep_staging.proofs.UploadCalls.{received, received_into}
-use Rattle.dep_row_maps.proofs.Changing.{by_leads, by_sees, changes_then}
+use Rattle.dep_row_maps.proofs.Changing.{changes_then, inside_after, tables_after, tables_by, tables_kept}
 use Rattle.dep_row_maps.proofs.Calling.{changes_failed}
 use Rattle.dep_staging.proofs.segments.put_segment.Goals as goal
 
 pub returns-clause-does : goal.returns-clause-does
-returns-clause-does g c = record {
-  map = λ clean inside ours s are was it there none is its grown kept.
-      let old = g.T.Statements.state c.args.tx.now in
-      let one = g.T.Statements.state c.put_blocks.new.tx in
-      let two = g.T.Statements.state c.insert_segment.new.tx in
-      let new = g.T.Statements.state c.rewrite_upload.new.tx in
-      let u = c.args.row.now.upload in
-      let bytes = g.C.Content.bytes c.args.content.now in
-      let mid = received_into was c.args.segment.now.number bytes in
-      let clean_two = clean_before c.rewrite_upload.ensures.does.keeps.stays clean in
-      let clean_one = clean_before c.insert_segment.ensures.does.keeps.stays clean_two in
-      let first = c.in_ok-put_blocks.ensures.does.ok clean_one inside ours in
-      let second = c.in_ok-insert_segment.ensures.does.ok clean_two (c.in_ok-put_blocks.ensures.does.stays.inside clean_one inside) first.ours in
-      let put = received (tables_of old) (tables_of one) (tables_of two) s c.args.segment.now u bytes was are ours.trees.ordered.1.1.1.1.1.1.0 ours.trees.ordered.1.1.1.1.1.1.1.1.0 there none its first.rows second.rows in
-      subst (λ m. OnOk c.rewrite_upload.result (TablesAre (tables_of new) (record s { uploads = m }))) (insert_twice s.uploads u mid it)
-      (c.rewrite_upload.ensures.does.map clean second.shows.mode second.ours (with_upload s u mid) put mid it (get_here s.uploads u mid) is grown kept);
-  keeps =
-      changes_then (changes_then (by_sees _ c.in_ok-put_blocks.ensures.does.stays c.in_ok-put_blocks.ensures.does.ok) (by_leads _ c.in_ok-insert_segment.ensures.does.keeps.stays c.in_ok-insert_segment.ensures.does.ok)) c.rewrite_upload.ensures.does.keeps;
-}
+returns-clause-does g c =
+    let rows_put = tables_after c.in_ok-put_blocks.ensures.does (tables_by c.in_ok-insert_segment.ensures.does) in
+    record {
+      map = λ clean inside ours s are was it there none is its grown kept.
+          let before = inside_after (tables_kept rows_put) c.rewrite_upload.ensures.does.keeps.stays clean inside ours in
+          let u = c.args.row.now.upload in
+          let bytes = g.C.Content.bytes c.args.content.now in
+          let mid = received_into was c.args.segment.now.number bytes in
+          let put = received (tables_of (g.T.Statements.state c.args.tx.now)) (tables_of (g.T.Statements.state c.insert_segment.new.tx)) s c.args.segment.now u bytes was are
+          ours.trees.ordered.1.1.1.1.1.1.0 ours.trees.ordered.1.1.1.1.1.1.1.1.0 there none its (rows_put.ok before.clean inside ours).rows in
+          subst (λ m. OnOk c.rewrite_upload.result (TablesAre (tables_of (g.T.Statements.state c.rewrite_upload.new.tx)) (record s { uploads = m }))) (insert_twice s.uploads u mid it)
+          (c.rewrite_upload.ensures.does.map clean before.inside before.ours (with_upload s u mid) put mid it (get_here s.uploads u mid) is grown kept);
+      keeps = changes_then (tables_kept rows_put) c.rewrite_upload.ensures.does.keeps;
+    }
 
 pub returns-clause-free : goal.returns-clause-free
 returns-clause-free g c clean inside ours s are =

@@ -2,11 +2,10 @@ use Rattle.std.proofs.Common.{sym, subst}
 use Rattle.std.specs.FinMap as finmap
 use Rattle.dep_tables.specs.Tables.{Tables, tables_of}
 use Rattle.dep_tables.proofs.Results.{ok_then}
-use Rattle.dep_tables.proofs.Chains.{clean_before}
 use Rattle.dep_row_maps.specs.TablesAre.{TablesAre}
 use Rattle.dep_row_maps.proofs.Whole.{timed_out_put}
 use Rattle.dep_staging.specs.Expiring.{timed_out}
-use Rattle.dep_row_maps.proofs.Changing.{by_leads, changes_then}
+use Rattle.dep_row_maps.proofs.Changing.{changes_then, inside_after, tables_by, tables_kept}
 use Rattle.dep_row_maps.proofs.Calling.{changes_failed}
 use Rattle.dep_staging.proofs.ticking.expire.Goals as goal
 
@@ -15,11 +14,11 @@ returns g c = record {
   does = record {
     map = λ clean inside ours s are.
         let mid = g.T.Statements.state c.drop_upload.new.tx in
-        let before = clean_before c.insert_timed_out.ensures.does.keeps.stays clean in
-        let gone = c.in_ok-drop_upload.ensures.does.map before inside ours s are in
-        ok_then c.insert_timed_out.result (c.insert_timed_out.ensures.does.ok clean (c.in_ok-drop_upload.ensures.does.keeps.stays.inside before inside) (c.in_ok-drop_upload.ensures.does.keeps.ours before inside ours))
+        let before = inside_after c.in_ok-drop_upload.ensures.does.keeps c.insert_timed_out.ensures.does.keeps.stays clean inside ours in
+        let gone = c.in_ok-drop_upload.ensures.does.map before.clean inside ours s are in
+        ok_then c.insert_timed_out.result (c.insert_timed_out.ensures.does.ok clean before.inside before.ours)
         (λ leads. subst (λ (t : Tables). TablesAre t (timed_out c.args.upload s)) (sym leads.rows) (timed_out_put (tables_of mid) (record s { uploads = finmap.remove s.uploads c.args.upload }) gone c.args.upload));
-    keeps = changes_then c.in_ok-drop_upload.ensures.does.keeps (by_leads _ c.insert_timed_out.ensures.does.keeps.stays c.insert_timed_out.ensures.does.ok);
+    keeps = changes_then c.in_ok-drop_upload.ensures.does.keeps (tables_kept (tables_by c.insert_timed_out.ensures.does));
   };
 }
 

@@ -4,7 +4,7 @@ use Rattle.dep_tables.specs.declared.state.StateRow.{StateRow}
 use Rattle.dep_tables.proofs.Results.{ok_then}
 use Rattle.dep_row_maps.specs.TablesAre.{TablesAre, with_counters}
 use Rattle.dep_row_maps.proofs.Whole.{state_written}
-use Rattle.dep_row_maps.proofs.Changing.{by_leads, changes_put}
+use Rattle.dep_row_maps.proofs.Changing.{changes_put, tables_by, tables_kept}
 use Rattle.dep_staging.proofs.ticking.set_clock.Goals as goal
 
 pub returns-then-clock-row : goal.returns-then-clock-row
@@ -21,11 +21,9 @@ pub returns : goal.returns
 returns g c = record {
   does = record {
     map = λ clean inside ours s are is.
-        let old = g.T.Statements.state c.args.tx.now in
-        let new = g.T.Statements.state c.write_state.new.tx in
         ok_then c.write_state.result (c.write_state.ensures.does.ok clean inside ours)
-        (λ wrote. subst (λ k. TablesAre (tables_of new) (with_counters s c.args.clock k)) (ap (λ (r : StateRow). r.next) is)
-        (subst (λ (t : Tables). TablesAre t (with_counters s c.args.clock c.args.row.now.next)) (sym wrote.rows) (state_written (tables_of old) s are c.args.clock c.args.row.now.next)));
-    keeps = by_leads _ c.write_state.ensures.does.keeps.stays c.write_state.ensures.does.ok;
+        (λ wrote. subst (λ k. TablesAre (tables_of (g.T.Statements.state c.write_state.new.tx)) (with_counters s c.args.clock k)) (ap (λ (r : StateRow). r.next) is)
+        (subst (λ (t : Tables). TablesAre t (with_counters s c.args.clock c.args.row.now.next)) (sym wrote.rows) (state_written (tables_of (g.T.Statements.state c.args.tx.now)) s are c.args.clock c.args.row.now.next)));
+    keeps = tables_kept (tables_by c.write_state.ensures.does);
   };
 }

@@ -5,7 +5,7 @@ use Rattle.dep_tables.specs.Tables.{tables_of}
 use Rattle.dep_tables.specs.declared.uploads.UploadColumns.{UploadColumns}
 use Rattle.dep_tables.proofs.Results.{if_ok, ok_then}
 use Rattle.dep_tables.proofs.Chains.{clean_before}
-use Rattle.dep_row_maps.proofs.Changing.{by_leads, changes_ok, changes_then}
+use Rattle.dep_row_maps.proofs.Changing.{changes_ok, changes_then, tables_by, tables_kept}
 use Rattle.dep_staging.proofs.UploadCalls.{none_at, opened}
 use Rattle.dep_row_maps.proofs.Calling.{changes_failed}
 use Rattle.dep_staging.proofs.uploads.open_upload.Goals as goal
@@ -23,7 +23,7 @@ returns-in-Some-clause-does g c = record {
       (λ leads. (opened old mid new s c.args.row.now (Some c.in-Some.value) it are ours.trees.ordered.1.1.1.1.1.1.1.1.1.0 c.in-Some.is is empty free
       (first.rows ∙ ap (λ (r : UploadColumns). with_new_upload_row r old) c.of_row.ensures) leads.rows).1);
   keeps =
-      changes_then (by_leads _ c.in_ok-insert_upload.ensures.does.keeps.stays c.in_ok-insert_upload.ensures.does.ok) (by_leads _ c.insert_sha512.ensures.does.keeps.stays c.insert_sha512.ensures.does.ok);
+      changes_then (tables_kept (tables_by c.in_ok-insert_upload.ensures.does)) (tables_kept (tables_by c.insert_sha512.ensures.does));
 }
 
 pub returns-in-None-clause-does : goal.returns-in-None-clause-does
@@ -35,7 +35,7 @@ returns-in-None-clause-does g c = record {
       let free = ap (λ (r : UploadColumns). row_at old.uploads r.upload) (sym c.of_row.ensures) ∙ c.in_ok-insert_upload.ensures.free clean inside ours in
       (opened old new new s c.args.row.now None it are ours.trees.ordered.1.1.1.1.1.1.1.1.1.0 c.in-None.is is empty free
       (first.rows ∙ ap (λ (r : UploadColumns). with_new_upload_row r old) c.of_row.ensures) refl).1;
-  keeps = changes_ok (by_leads _ c.in_ok-insert_upload.ensures.does.keeps.stays c.in_ok-insert_upload.ensures.does.ok);
+  keeps = changes_ok (tables_kept (tables_by c.in_ok-insert_upload.ensures.does));
 }
 
 pub returns-in_err-insert_upload-clause-does : goal.returns-in_err-insert_upload-clause-does
