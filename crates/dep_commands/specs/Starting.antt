@@ -5,6 +5,7 @@ use Rattle.sqlite.specs.State.{HasCleanDisk}
 use Rattle.sqlite.specs.Held.{Held, state}
 use Rattle.sqlite.specs.Tree.{Trees}
 use Rattle.dep_types.specs.State.{State, empty_state}
+use Rattle.dep_types.specs.Conditions.{Condition}
 use Rattle.dep_types.specs.Config.{IsChecked}
 use Rattle.dep_types.specs.declared.config.Config.{Config}
 use Rattle.dep_schema.specs.OpenTables.{HoldsNone}
@@ -13,8 +14,6 @@ use Rattle.dep_schema.specs.States.{IsLeftAs, Represents, Leaves}
 use Rattle.dep_hub.specs.Records.{Record, Run, first_world, stopped}
 use Rattle.dep_hub.specs.Representing.{RepresentsAfter, IsHonest}
 use Rattle.dep_hub.specs.declared.hub.Hub.{Hub}
-use Rattle.dep_store.specs.HashingStores.{condition_of}
-use Rattle.dep_store.specs.declared.archive.HashingStore.{HashingStore}
 use Rattle.dep_hub.specs.declared.faults.HubFault.TheVariants as refused
 use Rattle.dep_program.specs.declared.outcome.Outcome.{Outcome}
 use Rattle.dep_program.specs.declared.outcome.Outcome.TheVariants.{Usage, StoreFault}
@@ -34,12 +33,22 @@ pub record OpeningLeaves (config : Config) (old new : db.State) : Type 0 where
       × Run config first (records ++ stopped ∷ []) (first_world left))
 
 -- over what a stop left of this database for some state, the hub goes on from the records that led there
-abbrev pub GoesOnFromStop : {S : Type 0} → (g : Ghosts S) → Config → (old : db.State)
-    → Hub (HashingStore S) → Type 0
-GoesOnFromStop g config old hub = IsHonest (condition_of g) hub
+abbrev pub GoesOnFromStop : {A : Type 0} → (condition : A → Condition) → Config → (old : db.State)
+    → Hub A → Type 0
+GoesOnFromStop condition config old hub = IsHonest condition hub
     → (found : State) → IsLeftAs old.now.trees found
     → (first : State) (records : List Record) → Run config first records (first_world found)
-    → RepresentsAfter (condition_of g) hub first records
+    → RepresentsAfter condition hub first records
+
+-- the hub is configured so, which was checked, and goes on from what this database was given as, also where a fault shuts it
+-- later
+pub record IsOpened {A : Type 0} (condition : A → Condition) (config : Config) (old : db.State)
+    (hub : Hub A) : Type 0 where
+  pub configured : hub.config ≡ config
+  pub checked : IsChecked config
+  pub fresh : IsHonest condition hub → HoldsNone old.now.trees
+      → RepresentsAfter condition hub empty_state []
+  pub again : GoesOnFromStop condition config old hub
 
 -- The configuration breaks a rule, which was found before the database was opened.
 abbrev pub RefusesConfig : {S : Type 0} → Config → (given : Held S) → StartFault × Held S → Type 0

@@ -4,14 +4,22 @@
 #![tactic(auto)]
 
 mod audit_fault;
+mod examination;
 mod exporting;
 mod lines;
+mod replaying;
 mod reporting;
+mod reserved_hub;
+mod service;
 mod starting;
 mod tally;
 mod working;
 
+pub use examination::{audit_database, export_database};
 pub use exporting::export_object;
+pub use replaying::{replay, replay_gathered};
 pub use reporting::audit_all;
+pub use reserved_hub::open_reserved_hub;
+pub use service::serve_database;
 pub use starting::{StartFault, check_config, close_hub, open_hub};
 pub use working::{DatabaseWork, work_on_file};

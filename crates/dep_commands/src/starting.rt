@@ -81,7 +81,7 @@ pub fn open_hub<S: Alter, W: Watch>(
         → RepresentsAfter (condition_of S.Store) hub empty_state []) }
     // Over what a stop left it goes on from the records before it, for each state that the stop
     // may have left.
-    ensures again { IfOk result (GoesOnFromStop S.Store config (state S.Store connection)) }
+    ensures again { IfOk result (GoesOnFromStop (condition_of S.Store) config (state S.Store connection)) }
     ensures config { IfOk result (λ hub. hub.config ≡ config) }
     // No database is opened for a configuration that is refused.
     ensures checked { MatchResult result (λ _. IsChecked config)

@@ -13,7 +13,7 @@ use Rattle.url.specs.Parts.{Parts}
 use Rattle.url.specs.Path.{dot_count, parse_path_start, parse_segments, push_segment}
 use Rattle.url.specs.Scheme.{default_port, scheme_len, scheme_type}
 use Rattle.dep_types.specs.Config.{IsChecked}
-use Rattle.dep_configuration.specs.Example.{example_config}
+use Rattle.dep_docs_out.specs.ExampleDocuments.{example_config}
 use Rattle.dep_configuration.proofs.ExampleRead.{example_members, example-config}
 use Rattle.dep_configuration.proofs.ValuesGiven.{limits-of}
 use Rattle.json.specs.Json.{object}

@@ -11,7 +11,8 @@ use Rattle.json.specs.Lex.{Lexeme, token, comma, colon, between, fresh, lex, pun
 use Rattle.json.specs.Json.{Json, Members, no_members, member, object, document, value, items, members, max_depth, if_last}
 use Rattle.json.specs.Strict.{keys}
 use Rattle.dep_configuration.specs.Configured.{HasConfig, HasConfiguration, HasLimits}
-use Rattle.dep_configuration.specs.Example.{example_config, example_configuration, example_limits}
+use Rattle.dep_docs_out.specs.ExampleDocuments.{example_config}
+use Rattle.dep_configuration.specs.Example.{example_configuration, example_limits}
 use Rattle.dep_configuration.specs.Fields.{bounds_of, name_of}
 use Rattle.dep_configuration.specs.Names.{is_field_name, AreFieldNames}
 use Rattle.dep_configuration.specs.Readings.{number_within}

@@ -1,23 +1,9 @@
 -- The configuration that the example gives.
-use Rattle.std.specs.Prelude.{[], ◌∷◌, None, false, codes}
+use Rattle.std.specs.Prelude.{[], ◌∷◌, None, codes}
 use Rattle.std.specs.declared.net.ip_addr.IpAddr.TheVariants.{V4}
-use Rattle.dep_types.specs.declared.config.Config.{Config}
+use Rattle.dep_docs_out.specs.ExampleDocuments.{example_config}
 use Rattle.dep_configuration.specs.declared.configuration.Configuration.{Configuration}
 use Rattle.dep_configuration.specs.declared.configuration.ServerLimits.{ServerLimits}
-
-abbrev pub example_config : Config
-example_config = record {
-  base = codes "http://127.0.0.1:8080";
-  title = codes "swordd";
-  abstract_text = codes "Deposit service";
-  depositor = codes "depositor";
-  on_behalf_of = false;
-  require_if_match = false;
-  max_upload = 16777216;
-  max_assembled = 17179869184;
-  max_segments = 10000;
-  staging_max_idle = 3600;
-}
 
 abbrev pub example_limits : ServerLimits
 example_limits = record {

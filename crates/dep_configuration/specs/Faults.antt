@@ -22,12 +22,9 @@ use Rattle.dep_configuration.specs.declared.fault.ConfigurationFault.TheVariants
 
 -- these fields have to be given
 abbrev pub is_required : Wanted → Bool
-is_required AnyText = false
 is_required FilledText = true
-is_required Flag = false
-is_required Address = false
 is_required Base = true
-is_required (WholeNumber b) = false
+is_required _ = false
 
 -- a value is what is wanted; of a base, a text
 abbrev pub Suits : Wanted → Json → Type 0
@@ -78,7 +75,7 @@ pub record IsFaultOfBase (e : ConfigurationFault) (j : Json) : Type 0 where
   pub readable : AreReadable j
   pub cause : IsSomeAnd (given_text Name.Base j) (λ text. ¬ IsBase text)
 
--- why a value is refused, unless memory was wanting: of several faults the first one in this order
+-- why a value is refused, unless out of memory: of several faults the first one in this order
 abbrev pub IsFirstFault : ConfigurationFault → Json → Type 0
 IsFirstFault e j =
     MatchOption (as_object j) (e ≡ NotObject) (λ members. IsFaultOfNames e (keys members))

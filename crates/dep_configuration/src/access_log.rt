@@ -128,7 +128,7 @@ pub struct Start<'a> {
     pub open_microseconds: u64,
 }
 
-/// Returns the line of a request that was answered. An `Err` is lack of memory.
+/// Returns the line of a request that was answered. An `Err` means out of memory.
 pub fn exchange_line(alloc: Global, exchange: &LoggedExchange<'_>) -> Result<Vec<u8>, AllocError> {
     let end = exchange.path.floor_char_boundary(GREATEST_PATH);
     let refusal = match exchange.refusal {
@@ -153,7 +153,7 @@ pub fn exchange_line(alloc: Global, exchange: &LoggedExchange<'_>) -> Result<Vec
     )
 }
 
-/// Returns the line of a connection that the server closed, or of a client that it rejected. An `Err` is want of
+/// Returns the line of a connection that the server closed, or of a client that it rejected. An `Err` means out of
 /// memory.
 pub fn closing_line(alloc: Global, closing: &ClosedConnection<'_>) -> Result<Vec<u8>, AllocError> {
     let (event, connection) = match closing.connection {
@@ -172,8 +172,8 @@ pub fn closing_line(alloc: Global, closing: &ClosedConnection<'_>) -> Result<Vec
     )
 }
 
-/// Returns the line of a reserve that came into this state, at a moment in whole seconds since 1970. An `Err` is want of
-/// memory.
+/// Returns the line of a reserve that came into this state, at a moment in whole seconds since 1970. An `Err` means out
+/// of memory.
 pub fn reserve_line(
     alloc: Global,
     moment: u64,
@@ -189,7 +189,7 @@ pub fn reserve_line(
     )
 }
 
-/// Returns the line of a server that starts. An `Err` is lack of memory.
+/// Returns the line of a server that starts. An `Err` means out of memory.
 pub fn start_line(alloc: Global, start: &Start<'_>) -> Result<Vec<u8>, AllocError> {
     let limits = &start.limits;
     let connections = match limits.connections {

@@ -87,11 +87,12 @@ pub over_socket : {A : Type 0} (condition : A → Condition) (may_commit : A →
     (before after : Wire) → before.unread ≡ None → before.reads ≡ 0 → before.last ≡ NoneYet
     → before.out.taken ≡ None → before.out.failures ≡ 0 → before.out.held ≡ [] → before.out.has_failed ≡ false
     → ConversesOver condition may_commit shown ticks (session old before clock) (session new after now) end
-    → ServesOne condition may_commit ticks clock now old new end
-over_socket condition may_commit shown ticks clock now old new end before after unread reads last taken failures held going converses =
+    → ServesAs condition old new → ServesOne condition may_commit ticks clock now old new end
+over_socket condition may_commit shown ticks clock now old new end before after unread reads last taken failures held going converses goes =
     let out : before.out ≡ socket_out = λ i. record { taken = taken i; failures = failures i; held = held i; has_failed = going i } in
     let same : before ≡ socket_wire = λ i. record { unread = unread i; reads = reads i; last = last i; out = out i } in
     record {
+      goes = goes;
       after = after;
       converses = subst (λ (w : Wire). ConversesOver condition may_commit AnyOut ticks (session old w clock) (session new after now) end) same
           (converses_wider condition may_commit shown AnyOut (λ o its. tt) ticks (session old before clock) (session new after now) end converses);
@@ -101,6 +102,7 @@ over_socket condition may_commit shown ticks clock now old new end before after 
 pub not_served : {A : Type 0} (condition : A → Condition) (may_commit : A → Bool) {C : Type 0} (ticks : C → ℕ → C → Type 0) (clock : C) (hub : Hub A)
     → Settles (condition hub.store) → ServesOne condition may_commit ticks clock clock hub hub Unserved
 not_served condition may_commit ticks clock hub settles = record {
+  goes = record { config = refl; clean = λ h. h; honest = λ h. h };
   after = socket_wire;
   converses = unserved condition clock hub hub socket_wire (λ w at. at) refl (λ w at. stays_as (condition hub.store) w.state settles at.state) (λ first records h. h);
 }

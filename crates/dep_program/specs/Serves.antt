@@ -2,6 +2,7 @@
 use Rattle.std.specs.Prelude.{◌≡◌, ◌⊎◌, ◌<◌, ◌+◌, ℕ, Bool, false, List, [], All, None, length}
 use Rattle.std.specs.List.{flat_map}
 use Rattle.dep_hub.specs.Records.{Record}
+use Rattle.dep_hub.specs.Representing.{ServesAs}
 use Rattle.dep_connection.specs.Turns.{Turn, records_of, ArePieces}
 use Rattle.dep_connection.specs.Conversation.{Outflow, Wire, session, AddsAll, Clocks, ConversesOver}
 use Rattle.dep_types.specs.Conditions.{Condition}
@@ -47,9 +48,10 @@ abbrev pub AnyOut : Outflow → Type 0
 AnyOut out = Unit {0}
 
 module _ {A : Type 0} (condition : A → Condition) where
-  -- one connection over an accepted socket
+  -- One connection over an accepted socket. The hub goes on as it was configured, and clean only where it was.
   pub record ServesOne (may_commit : A → Bool) {C : Type 0} (ticks : C → ℕ → C → Type 0) (clock now : C)
       (old new : Hub A) (served : Served) : Type 0 where
+    pub goes : ServesAs condition old new
     pub after : Wire
     pub converses : ConversesOver condition may_commit AnyOut ticks
         (session old socket_wire clock)

@@ -42,7 +42,6 @@ fn serve_stream<A: Archive, C: FnMut() -> Moment>(
 ) -> Served
     requires { C.IsAlwaysCallable clock.old }
     ensures call { C.IsAlwaysCallable clock.new }
-    ensures goes { ServesAs A.condition hub.old hub.new }
     ensures one { ServesOne A.condition A.may_commit C.step clock.old clock.new
         hub.old hub.new result }
 {

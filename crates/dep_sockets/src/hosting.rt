@@ -24,8 +24,8 @@ pub trait AcceptorLog: HostLog {
         ensures noted { Self.notes self.new ≡ Self.notes self.old };
 }
 
-/// Serves whoever comes by the acceptor, and hands the store back. The log is told of the acceptor once it is open, so that who
-/// reads it there can connect.
+/// Makes a host over the hub, opens the acceptor, serves until no more come by it, and hands the store back. The log is told of
+/// the acceptor once it is open, so that who reads it there can connect.
 pub fn serve_hub<
     A: Archive,
     R: Source + Drop,

@@ -12,7 +12,7 @@ use Rattle.dep_schema.specs.States.{Represents}
 use Rattle.dep_schema.specs.declared.opening.OpenFault.{OpenFault}
 use Rattle.dep_schema.proofs.Transacting.{IsSettled, leaves_as_was}
 use Rattle.dep_store.specs.Migrating.{Keeps}
-use Rattle.dep_commands.specs.Starting.{IsGivenOrStore, IsStore, OpeningLeaves, RefusesConfig, outcome_of_start}
+use Rattle.dep_commands.specs.Starting.{IsGivenOrStore, IsOpened, IsStore, OpeningLeaves, RefusesConfig, outcome_of_start}
 use Rattle.dep_commands.specs.declared.starting.StartFault.{StartFault}
 use Rattle.dep_commands.specs.declared.starting.StartFault.TheVariants as fault
 use Rattle.dep_hub.specs.declared.faults.HubFault.TheVariants as refused_by
@@ -28,11 +28,12 @@ use Rattle.dep_slot.specs.declared.limits.Limits.{Limits as Bounds}
 use Rattle.dep_sockets.specs.Acceptors.{AcceptorState, EndsHub, WentOn}
 use Rattle.swordd.specs.declared.host_log.StandardErrorLog.{StandardErrorLog}
 use Rattle.dep_configuration.specs.declared.configuration.ServerLimits.{ServerLimits}
-use Rattle.swordd.specs.Hosted.{call_log_of, condition_of, HostStore, LedBy, IsHosted, IsOpened, HostsDatabase, hosts, host_limits, left_alone, not_checked, not_made, not_opened, unshown}
+use Rattle.dep_commands.specs.Reserved.{call_log_of, condition_of}
+use Rattle.swordd.specs.Hosted.{HostStore, LedBy, IsHosted, HostsDatabase, hosts, host_limits, left_alone, not_checked, not_made, not_opened, unshown}
 
 module _ {S : Type 0} (g : Ghosts S) (clean : (h : Held S) → IsTrue (state g h).is_open → HasCleanDisk (state g h))
     (settled : (h : Held S) → IsTrue (state g h).is_open → IsSettled (state g h)) (given : Held S) (config : Config) (opened : Hub (HostStore S))
-    (is : IsOpened g config (state g given) opened) where
+    (is : IsOpened (condition_of g) config (state g given) opened) where
   led : (hub : Hub (HostStore S)) → hub.config ≡ config → (first : State) (records : List Record) (actions : List HostAction)
       → RepresentsBehind (condition_of g) hub first records (λ n. []) actions → LedBy config (state g hub.store.archive.store) first records actions
   led hub same first records actions it =

@@ -1,5 +1,2 @@
-pub mod ReplayLemmas
-pub mod DatabaseLemmas
-pub mod ExaminationLemmas
 pub mod HostedLemmas
 pub mod CalledLemmas

@@ -10,15 +10,12 @@ use Rattle.dep_types.specs.declared.config.Config.{Config}
 use Rattle.dep_schema.specs.OpenTables.{HoldsNone}
 use Rattle.dep_schema.specs.States.{Represents, IsLeftAs, Leaves}
 use Rattle.dep_store.specs.Migrating.{Keeps}
-use Rattle.dep_types.specs.Conditions.{Condition}
-use Rattle.dep_store.specs.HashingStores as store
 use Rattle.dep_store.specs.declared.archive.HashingStore.{HashingStore}
 use Rattle.dep_reserve.specs.declared.reserved_archive.ReservedArchive.{ReservedArchive}
-use Rattle.dep_hub.specs.ArchiveCalls.{CallLog}
 use Rattle.swordd.specs.declared.logged_reserve.LoggedReserve.{LoggedReserve}
-use Rattle.dep_commands.specs.Starting.{OpeningLeaves}
+use Rattle.dep_commands.specs.Starting.{IsOpened, OpeningLeaves}
+use Rattle.dep_commands.specs.Reserved.{call_log_of, condition_of}
 use Rattle.dep_hub.specs.Records.{World, Record, Run, first_world, stopped}
-use Rattle.dep_hub.specs.Representing.{RepresentsAfter, IsHonest}
 use Rattle.dep_hub.specs.declared.hub.Hub.{Hub}
 use Rattle.dep_slot.specs.Causes.{Causes}
 use Rattle.dep_host.specs.Hosting.{HostAction}
@@ -55,33 +52,9 @@ pub record IsHosted (config : Config) (old new : db.State) (actions : List HostA
       → (first : State) (records : List Record) → Run config first records (first_world found)
       → LedBy config new first records actions
 
--- how a store with a reserve stands: as without one
-abbrev pub condition_of : {S R : Type 0} → (g : Ghosts S) → ReservedArchive (HashingStore S) R → Condition
-condition_of g its = store.condition_of g its.archive
-
-abbrev pub call_log_of : {S R : Type 0} → (g : Ghosts S) → ReservedArchive (HashingStore S) R → CallLog
-call_log_of g its = store.call_log_of g its.archive
-
 -- a store with the reserve of a host
 abbrev pub HostStore : Type 0 → Type 0
 HostStore S = ReservedArchive (HashingStore S) LoggedReserve
-
--- over what a store left in this database for some state, the hub goes on from the records that led there
-abbrev pub GoesOnFromLeft : {S R : Type 0} → (g : Ghosts S) → Config → (old : db.State)
-    → Hub (ReservedArchive (HashingStore S) R) → Type 0
-GoesOnFromLeft g config old hub = IsHonest (condition_of g) hub
-    → (found : State) → IsLeftAs old.now.trees found
-    → (first : State) (records : List Record) → Run config first records (first_world found)
-    → RepresentsAfter (condition_of g) hub first records
-
--- the hub is configured so, which was checked, and goes on from what this database was given as, also where a fault shuts it later
-pub record IsOpened {S R : Type 0} (g : Ghosts S) (config : Config) (old : db.State)
-    (hub : Hub (ReservedArchive (HashingStore S) R)) : Type 0 where
-  pub configured : hub.config ≡ config
-  pub checked : IsChecked config
-  pub fresh : IsHonest (condition_of g) hub → HoldsNone old.now.trees
-      → RepresentsAfter (condition_of g) hub empty_state []
-  pub again : GoesOnFromLeft g config old hub
 
 -- the log of a host on standard error shows nothing of what it was told
 abbrev pub unshown : StandardErrorLog → Option (List Note)
@@ -106,7 +79,7 @@ module _ {S R K P : Type 0} (g : Ghosts S) (unread : R → Option (List ℕ)) (t
         (log_before log_after : StandardErrorLog)
         → EndsHub (condition_of g) (call_log_of g) unread taken held size causes unshown before
         after log_before log_after (host_limits limits) hub left actions outcome
-        → IsOpened g config (state g given) hub
+        → IsOpened (condition_of g) config (state g given) hub
         → back ≡ left.archive.store
         → IsHosted config (state g given) (state g back) actions
         → HostsDatabase before after limits config given back outcome

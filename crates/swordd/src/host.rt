@@ -21,7 +21,10 @@ pub fn run_host(rt: &HostRuntime) -> Outcome {
         Some(HostCommand::Example) => print_example(rt),
         Some(HostCommand::Version) => print_version(rt),
         Some(HostCommand::Check(file)) => check_file(rt, file),
-        Some(HostCommand::Serve(file)) => serve_file(rt, file),
+        Some(HostCommand::Serve(file)) => match configuration_to_serve(rt, file) {
+            Ok(configuration) => serve_store(rt, configuration),
+            Err(outcome) => outcome,
+        },
     }
 }
 
@@ -73,8 +76,8 @@ fn print_checked(rt: &HostRuntime, configuration: &Configuration) -> Outcome {
     outcome_printed(rt, &print_configuration(&mut rt.stdout(), configuration))
 }
 
-// Serves the store of the configuration, if it can be served.
-fn serve_file(rt: &HostRuntime, file: &str) -> Outcome {
+// The configuration in a file, unless the server is told to stop before it begins.
+fn configuration_to_serve(rt: &HostRuntime, file: &str) -> Result<Configuration, Outcome> {
     match configuration_in(rt, file) {
         Ok(configuration) if is_stopped(rt, &configuration) => {
             drop(configuration);
@@ -83,10 +86,9 @@ fn serve_file(rt: &HostRuntime, file: &str) -> Outcome {
                 file,
                 &"stop_file: the file is there, which tells the server to stop",
             );
-            Outcome::Usage
+            Err(Outcome::Usage)
         }
-        Ok(configuration) => serve_store(rt, configuration),
-        Err(outcome) => outcome,
+        read => read,
     }
 }
 

@@ -7,8 +7,7 @@ ghost use Rattle.swordd.specs.Hosted.{HostsDatabase, IsEntranceOf, IsPlaceOf, ho
 
 use crate::host_log::StandardErrorLog;
 use crate::logged_reserve::LoggedReserve;
-use crate::reserved_hub::open_reserved_hub;
-use dep_commands::{DatabaseWork, work_on_file};
+use dep_commands::{DatabaseWork, open_reserved_hub, work_on_file};
 use dep_configuration::{Configuration, ServerLimits};
 use dep_host::HostLog;
 use dep_outbox::{Sink, Source, Spool};
@@ -102,8 +101,8 @@ struct HostService<'a> {
     is_done: &'a Cell<bool>,
 }
 
-/// Opens the store of the configuration, which is made where it isn't there, and serves all its clients. Then the log
-/// of the store is copied into its file. Unless all was done, a line on standard error says why.
+/// Serves the clients of a configuration from the store in its file, which is made where it isn't there, with a reserve
+/// beside it. Then the log of the store is copied into its file. Unless all was done, a line on standard error says why.
 pub fn serve_store(rt: &HostRuntime, configuration: Configuration) -> Outcome {
     let Ok(reserve_file) = reserve_beside(rt.alloc(), configuration.database.as_str()) else {
         return fails(rt, "opened");
@@ -152,7 +151,7 @@ impl DatabaseWork for HostService<'_> {
         (λ d. d.entrance) (λ d. d.spools.now.folder.now) (λ d. d.spools.now.most)
         it.place it.config given back };
 
-    // Serves whoever connects at the place.
+    // Makes the spools and the acceptor of the place, and serves whoever comes by it. Prints why that was broken off.
     fn work<S: Alter>(self, connection: Connection<S>) -> (Outcome, Connection<S>) {
         let HostService {
             rt,
@@ -174,7 +173,7 @@ impl DatabaseWork for HostService<'_> {
     }
 }
 
-/// Opens the store in the database, serves whoever comes by the acceptor, and hands the database back.
+/// Opens a hub with the place's reserve over the database, and hands that back once no more come by the acceptor.
 fn host_database<S: Alter, R: Source + Drop, K: Sink + Drop, P: Spool + Drop, E: Acceptor<R, K, P>>(
     rt: &HostRuntime,
     place: &HostOptions,

@@ -4,7 +4,6 @@
 
 mod called;
 mod commands;
-mod examination;
 mod folders;
 mod held_lines;
 mod host;
@@ -12,20 +11,17 @@ mod host_log;
 mod hosting;
 mod logged_reserve;
 mod progress;
-mod replay;
-mod reserved_hub;
-mod service;
 mod start;
 mod store_file;
 
 use crate::called::is_called_host;
 use crate::commands::run_command;
 use crate::host::run_host;
-pub use crate::replay::{replay, replay_gathered};
-pub use dep_commands::{audit_all, export_object};
+pub use dep_commands::{audit_all, export_object, replay, replay_gathered};
 pub use dep_program::{Outcome, serve_on};
 use std::process::ExitCode;
 
+/// Runs the program that it was called as, and exits with the status of how that ended.
 fn main(rt: HostRuntime) -> ExitCode {
     let outcome = if is_called_host(&rt) {
         run_host(&rt)

@@ -8,8 +8,8 @@ loop-init g c = record { call = c.requires; goes = record { config = refl; clean
 pub loop-preserved : goal.loop-preserved
 loop-preserved g c = record {
   call = c.serve_stream.ensures.call;
-  goes = serves_then _ _ _ _ c.loop.invariant.goes c.serve_stream.ensures.goes;
-  served = one_served _ _ _ _ _ _ _ _ _ c.loop.invariant.served c.serve_stream.ensures.goes.clean _ c.serve_stream.result c.serve_stream.ensures.one;
+  goes = serves_then _ _ _ _ c.loop.invariant.goes c.serve_stream.ensures.one.goes;
+  served = one_served _ _ _ _ _ _ _ _ _ c.loop.invariant.served c.serve_stream.ensures.one.goes.clean _ c.serve_stream.result c.serve_stream.ensures.one;
 }
 
 pub returns-in_default-clause-goes : goal.returns-in_default-clause-goes

@@ -9,7 +9,7 @@ pub returns-in-Ok : goal.returns-in-Ok
 returns-in-Ok g c = record {
   hosts = over_hub g.S.Store (λ h is_open. clean_if_open (g.S.Store.view h.store) (g.met.S.Store.shut_if_dirty h.store) is_open)
       (λ h is_open trees may. g.met.S.Store.settled h.store trees is_open may) c.args.connection c.args.config c.in-Ok.hub
-      (record { configured = c.in-Ok.ensures.config; checked = c.in-Ok.ensures.checked; fresh = c.in-Ok.ensures.fresh; again = c.in-Ok.ensures.again })
+      c.in-Ok.ensures.opened
       g.R.Source.unread g.K.Sink.taken g.P.Spool.held g.P.Spool.size (causes_of g.R.Source.halts g.K.Sink.halts g.P.Spool.failures)
       c.serve_hub-outcome.result.1 c.close.result c.serve_hub-outcome.ensures.ends.0 c.serve_hub-outcome.result.0 (c.close.ensures ∙ c.into_store.ensures ∙ ap (λ (a : HashingStore _). a.store) c.into_archive.ensures) c.host_limits.ensures
       c.serve_hub-outcome.ensures.ends.1 c.serve_hub-outcome.ensures.ends.2;

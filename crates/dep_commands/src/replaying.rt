@@ -4,9 +4,9 @@ ghost use Rattle.std.specs.Io.KnownBytes.{Keeps};
 ghost use Rattle.sqlite.specs.Held.{state};
 ghost use Rattle.dep_connection.specs.Flushing.{IsFlushed};
 ghost use Rattle.dep_program.specs.Gathering.{reported, held_in, given};
-ghost use Rattle.swordd.specs.Replays.{FromNothing, Replays, ReplaysIn, ReplaysSent, wire_gathered, wire_of};
+ghost use Rattle.dep_commands.specs.Replays.{FromNothing, Replays, ReplaysIn, ReplaysSent, wire_gathered, wire_of};
 
-use dep_commands::{close_hub, open_hub};
+use crate::starting::{close_hub, open_hub};
 use dep_connection::{Flush, serve_connection};
 use dep_moment::Moment;
 use dep_program::{Gathered, Outcome, configuration, outcome_of, outcome_sent};

@@ -1,15 +1,12 @@
 //! A hub over a database with a reserve.
-ghost use Rattle.std.specs.Prelude.{◌≡◌, [], false, IfOk, IfErr, IsTrue, MatchResult};
+ghost use Rattle.std.specs.Prelude.{◌≡◌, false, IfOk, IfErr, IsTrue};
 ghost use Rattle.sqlite.specs.Held.{state};
-ghost use Rattle.dep_types.specs.State.{empty_state};
 ghost use Rattle.dep_types.specs.Config.{IsChecked};
-ghost use Rattle.dep_schema.specs.OpenTables.{HoldsNone};
 ghost use Rattle.dep_store.specs.Migrating.{Keeps};
-ghost use Rattle.dep_commands.specs.Starting.{IsGivenOrStore, OpeningLeaves, RefusesConfig};
-ghost use Rattle.dep_hub.specs.Representing.{RepresentsAfter, IsHonest};
-ghost use Rattle.swordd.specs.Hosted.{condition_of, GoesOnFromLeft};
+ghost use Rattle.dep_commands.specs.Starting.{IsGivenOrStore, IsOpened, OpeningLeaves, RefusesConfig};
+ghost use Rattle.dep_commands.specs.Reserved.{condition_of};
 
-use dep_commands::{StartFault, check_config};
+use crate::starting::{StartFault, check_config};
 use dep_hub::{Hub, HubFault};
 use dep_reserve::{Reserve, ReservedArchive};
 use dep_schema::OpenFault;
@@ -19,7 +16,7 @@ use sqlite::{Alter, Connection};
 use std::alloc::Global;
 
 /// Checks the configuration, opens the database as a store, takes the reserve, if there is one, and makes a hub over both,
-/// without connections. A refusal hands the connection back, as one of `dep_commands::open_hub` does.
+/// without connections. A refusal hands the connection back, as one of `open_hub` does.
 pub fn open_reserved_hub<S: Alter, R: Reserve + Drop>(
     alloc: Global,
     config: Config,
@@ -27,13 +24,10 @@ pub fn open_reserved_hub<S: Alter, R: Reserve + Drop>(
     reserve: Option<R>,
 ) -> Result<Hub<ReservedArchive<HashingStore<S>, R>>, (StartFault, Connection<S>)>
     requires settled { (state S.Store connection).in_transaction ≡ false }
-    ensures fresh { IfOk result (λ hub. IsHonest (condition_of S.Store) hub
-        → HoldsNone (state S.Store connection).now.trees
-        → RepresentsAfter (condition_of S.Store) hub empty_state []) }
-    ensures again { IfOk result (GoesOnFromLeft S.Store config (state S.Store connection)) }
-    ensures config { IfOk result (λ hub. hub.config ≡ config) }
-    ensures checked { MatchResult result (λ _. IsChecked config)
-        (λ e. (fault : OpenFault) → e.0 ≡ StartFault.Open fault → IsChecked config) }
+    ensures opened { IfOk result (IsOpened (condition_of S.Store) config (state S.Store connection)) }
+    // No database is opened for a configuration that is refused.
+    ensures checked { IfErr result (λ e. (fault : OpenFault) → e.0 ≡ StartFault.Open fault
+        → IsChecked config) }
     ensures left { IfErr result (λ e. (fault : OpenFault) → e.0 ≡ StartFault.Open fault
         → IsTrue (state S.Store e.1).is_open
         → Keeps (state S.Store connection) (state S.Store e.1)) }

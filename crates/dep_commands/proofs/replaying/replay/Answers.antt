@@ -1,9 +1,9 @@
 use Rattle.sqlite.specs.Held.{state}
 use Rattle.sqlite.specs.Steps.{over_memory}
 use Rattle.sqlite.proofs.Callers.{memory_is_clean}
-use Rattle.swordd.specs.Replays.{not_begun, wire_of}
-use Rattle.swordd.proofs.ReplayLemmas.{empty_holds_none, rests_same}
-use Rattle.swordd.proofs.replay.replay.Goals as goal
+use Rattle.dep_commands.specs.Replays.{not_begun, wire_of}
+use Rattle.dep_commands.proofs.ReplayLemmas.{empty_holds_none, rests_same}
+use Rattle.dep_commands.proofs.replaying.replay.Goals as goal
 
 pub returns-in-Ok-clause-replays : goal.returns-in-Ok-clause-replays
 returns-in-Ok-clause-replays g c =

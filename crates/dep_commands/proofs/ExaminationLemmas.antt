@@ -19,9 +19,9 @@ use Rattle.dep_store.proofs.Tries.{represents_still}
 use Rattle.dep_program.specs.Folders.{without_folder}
 use Rattle.dep_program.specs.declared.outcome.Outcome.{Outcome}
 use Rattle.dep_program.specs.declared.outcome.Outcome.TheVariants.{StoreFault}
-use Rattle.swordd.specs.Databases.{IsRefused}
-use Rattle.swordd.specs.Examinations.{AuditsDatabase, ExportsDatabase, ExportsInto}
-use Rattle.swordd.proofs.DatabaseLemmas.{kept_still}
+use Rattle.dep_commands.specs.Databases.{IsRefused}
+use Rattle.dep_commands.specs.Examinations.{AuditsDatabase, ExportsDatabase, ExportsInto}
+use Rattle.dep_commands.proofs.DatabaseLemmas.{kept_still}
 
 -- of no object anything was written
 none_begun : (t : Tables) → IsBegun t []

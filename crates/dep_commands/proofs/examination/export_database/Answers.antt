@@ -3,9 +3,9 @@ use Rattle.sqlite.specs.Held.{Held, state}
 use Rattle.sqlite.specs.State.{HasCleanDisk}
 use Rattle.sqlite.proofs.StateLemmas.{clean_if_open}
 use Rattle.dep_program.specs.declared.outcome.Outcome.{Outcome}
-use Rattle.swordd.specs.Examinations.{ExportsDatabase}
-use Rattle.swordd.proofs.ExaminationLemmas.{exports_none, exports_into, exports_nothing}
-use Rattle.swordd.proofs.examination.export_database.Goals as goal
+use Rattle.dep_commands.specs.Examinations.{ExportsDatabase}
+use Rattle.dep_commands.proofs.ExaminationLemmas.{exports_none, exports_into, exports_nothing}
+use Rattle.dep_commands.proofs.examination.export_database.Goals as goal
 
 pub returns-in-Ok-new-clause-exports : goal.returns-in-Ok-new-clause-exports
 returns-in-Ok-new-clause-exports g c =

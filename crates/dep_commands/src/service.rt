@@ -3,20 +3,20 @@ ghost use Rattle.std.specs.Prelude.{◌≡◌, false, IsTrue};
 ghost use Rattle.sqlite.specs.Held.{state};
 ghost use Rattle.sqlite.specs.State.{HasCleanDisk};
 ghost use Rattle.dep_program.specs.Setup.{program_config, base_at};
-ghost use Rattle.swordd.specs.Databases.{ServesDatabase};
+ghost use Rattle.dep_commands.specs.Databases.{ServesDatabase};
 
-use crate::progress::Reported;
-use dep_commands::{close_hub, open_hub};
+use crate::starting::{close_hub, open_hub};
+use dep_files::Watch;
 use dep_program::{ListenOptions, Outcome, configuration_at, serve_at};
 use sqlite::{Alter, Connection};
 
 /// Opens the store in the database, serves so many connections of 127.0.0.1 at the port, one after another, and hands
 /// the database back. The watch is told of what is read where version 1 becomes version 2.
-pub fn serve_database<S: Alter>(
+pub fn serve_database<S: Alter, P: Watch>(
     rt: &HostRuntime,
     options: ListenOptions,
     connection: Connection<S>,
-    watch: &mut Reported<'_>,
+    watch: &mut P,
 ) -> (Outcome, Connection<S>)
     requires settled { (state S.Store connection).in_transaction ≡ false }
     ensures serves { ServesDatabase S.Store (program_config (base_at options.port)) options.count

@@ -4,10 +4,11 @@ ghost use Rattle.std.specs.Io.KnownBytes.{Appends};
 ghost use Rattle.sqlite.specs.Held.{state};
 ghost use Rattle.sqlite.specs.State.{HasCleanDisk};
 ghost use Rattle.dep_types.specs.Writing.{HasRisen};
-ghost use Rattle.swordd.specs.Examinations.{AuditsDatabase, ExportsDatabase};
+ghost use Rattle.dep_commands.specs.Examinations.{AuditsDatabase, ExportsDatabase};
 
-use crate::progress::Reported;
-use dep_commands::{audit_all, export_object};
+use crate::exporting::export_object;
+use crate::reporting::audit_all;
+use dep_files::Watch;
 use dep_program::{Folder, FolderSink, Outcome, without_folder};
 use dep_store::Store;
 use dep_types::Outlet;
@@ -15,11 +16,11 @@ use sqlite::{Alter, Connection};
 use std::alloc::Global;
 
 /// Opens the store in the database, checks all its files, and hands the database back. The lines go to the outlet.
-pub fn audit_database<S: Alter, W: Outlet>(
+pub fn audit_database<S: Alter, W: Outlet, P: Watch>(
     alloc: Global,
     connection: Connection<S>,
     lines: &mut W,
-    watch: &mut Reported<'_>,
+    watch: &mut P,
 ) -> (Outcome, Connection<S>)
     requires settled { (state S.Store connection).in_transaction ≡ false }
     ensures audits { (written : List ℕ) × Appends (W.taken lines.old) (W.taken lines.new) written
@@ -40,12 +41,12 @@ pub fn audit_database<S: Alter, W: Outlet>(
 
 /// Opens the store in the database, makes the folder, which must not be there, and fills it with the bag of the
 /// object. Hands the database back.
-pub fn export_database<S: Alter>(
+pub fn export_database<S: Alter, P: Watch>(
     rt: &HostRuntime,
     connection: Connection<S>,
     object: u64,
     folder: &str,
-    watch: &mut Reported<'_>,
+    watch: &mut P,
 ) -> (Outcome, Connection<S>)
     requires settled { (state S.Store connection).in_transaction ≡ false }
     ensures exports { ExportsDatabase (state S.Store connection) (state S.Store result.1) object result.0 }

@@ -14,7 +14,7 @@ use Rattle.dep_store.specs.declared.archive.HashingStore.{HashingStore}
 use Rattle.dep_commands.specs.declared.starting.StartFault.TheVariants as start
 use Rattle.dep_store.proofs.Opened.{leaves_alone}
 use Rattle.dep_commands.proofs.StartingLemmas.{opening_leaves}
-use Rattle.swordd.proofs.reserved_hub.open_reserved_hub.Goals as goal
+use Rattle.dep_commands.proofs.reserved_hub.open_reserved_hub.Goals as goal
 
 other_fault : (a : HubFault) (b : OpenFault) → start.Hub a ≡ start.Open b → ⊥
 other_fault a b said = cc said
@@ -41,29 +41,25 @@ returns-in-Err-clause-stop g c =
     let d = state g.S.Store given in
     opening_leaves c.args.config d d (leaves_alone d (λ is_open trees h. g.met.S.Store.settled given.store trees is_open h) (c.is_autocommit-between.ensures.settled (search rules)))
 
-pub returns-in-Ok-new-clause-fresh : goal.returns-in-Ok-new-clause-fresh
-returns-in-Ok-new-clause-fresh g c honest none =
+pub returns-in-Ok-new-clause-opened : goal.returns-in-Ok-new-clause-opened
+returns-in-Ok-new-clause-opened g c =
     let made = c.in-Ok-new.ensures in
     let begun = c.new.ensures in
     let whole = c.new-archive.ensures.archive in
-    let same = ap (λ (a : ReservedArchive (HashingStore _) _). a.archive.store) made.kept ∙ ap (λ (a : HashingStore _). a.store) whole ∙ begun.store in
-    made.represents empty_state (subst (λ (a : HashingStore _). Keeps (state g.S.Store a.store) a.running empty_state) (sym whole) (record {
-      represents = subst (λ (h : Held _). Represents (state g.S.Store h) empty_state) (sym begun.store)
-          (c.in-Ok.ensures.fresh (subst (λ (h : Held _). HasCleanDisk (state g.S.Store h)) same honest) none);
-      hashed = begun.running empty_state;
-    }))
-
-pub returns-in-Ok-new-clause-again : goal.returns-in-Ok-new-clause-again
-returns-in-Ok-new-clause-again g c honest found left first records run =
-    let made = c.in-Ok-new.ensures in
-    let begun = c.new.ensures in
-    let whole = c.new-archive.ensures.archive in
-    let same = ap (λ (a : ReservedArchive (HashingStore _) _). a.archive.store) made.kept ∙ ap (λ (a : HashingStore _). a.store) whole ∙ begun.store in
-    made.again first records (first_world found) run (λ n. refl) (subst (λ (a : HashingStore _). Keeps (state g.S.Store a.store) a.running found) (sym whole) (record {
-      represents = subst (λ (h : Held _). Represents (state g.S.Store h) found) (sym begun.store)
-          (c.in-Ok.ensures.found (subst (λ (h : Held _). HasCleanDisk (state g.S.Store h)) same honest) found left);
-      hashed = begun.running found;
-    }))
+    let same = ap (λ (a : ReservedArchive (HashingStore _) _). a.archive.store) made.kept ∙ ap (λ (a : HashingStore _). a.store) whole ∙ begun.store in record {
+      configured = made.config;
+      checked = made.checked;
+      fresh = λ honest none. made.represents empty_state (subst (λ (a : HashingStore _). Keeps (state g.S.Store a.store) a.running empty_state) (sym whole) (record {
+        represents = subst (λ (h : Held _). Represents (state g.S.Store h) empty_state) (sym begun.store)
+            (c.in-Ok.ensures.fresh (subst (λ (h : Held _). HasCleanDisk (state g.S.Store h)) same honest) none);
+        hashed = begun.running empty_state;
+      }));
+      again = λ honest found left first records run. made.again first records (first_world found) run (λ n. refl) (subst (λ (a : HashingStore _). Keeps (state g.S.Store a.store) a.running found) (sym whole) (record {
+        represents = subst (λ (h : Held _). Represents (state g.S.Store h) found) (sym begun.store)
+            (c.in-Ok.ensures.found (subst (λ (h : Held _). HasCleanDisk (state g.S.Store h)) same honest) found left);
+        hashed = begun.running found;
+      }));
+    }
 
 pub returns-in-Err-new-clause-checked : goal.returns-in-Err-new-clause-checked
 returns-in-Err-new-clause-checked g c fault said = absurd (other_fault c.in-Err-new.fault fault said)

@@ -12,7 +12,7 @@ use Rattle.dep_commands.specs.Audits.{Audits}
 use Rattle.dep_commands.specs.Exports.{Exports}
 use Rattle.dep_program.specs.declared.outcome.Outcome.{Outcome}
 use Rattle.dep_program.specs.declared.outcome.Outcome.TheVariants.{StoreFault, TransferFault}
-use Rattle.swordd.specs.Databases.{IsKept, IsRefused}
+use Rattle.dep_commands.specs.Databases.{IsKept, IsRefused}
 
 -- it stays as a store; or it was not opened, which is a fault of the store
 abbrev pub Stays : (old new : db.State) → Outcome → Type 0

@@ -25,7 +25,7 @@ use Rattle.dep_hub.specs.declared.faults.HubFault.TheVariants as hub
 use Rattle.dep_commands.specs.Starting.{outcome_of_start}
 use Rattle.dep_commands.specs.declared.starting.StartFault.{StartFault}
 use Rattle.dep_commands.specs.declared.starting.StartFault.TheVariants as fault
-use Rattle.swordd.specs.Replays.{IsReplayed, Replays, replayed, refused, not_begun}
+use Rattle.dep_commands.specs.Replays.{IsReplayed, Replays, replayed, refused, not_begun}
 use Rattle.dep_program.specs.declared.outcome.Outcome.{Outcome}
 use Rattle.dep_program.specs.declared.outcome.Outcome.TheVariants.{Done, Usage, NoSuchObject, StoreFault, TransferFault, Damaged}
 

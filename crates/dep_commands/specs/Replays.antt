@@ -16,7 +16,7 @@ use Rattle.dep_program.specs.Setup.{program_config}
 use Rattle.dep_program.specs.declared.gathered.Gathered.{Gathered}
 use Rattle.dep_program.specs.declared.outcome.Outcome.{Outcome}
 use Rattle.dep_program.specs.declared.outcome.Outcome.TheVariants.{Usage, StoreFault}
-use Rattle.swordd.specs.declared.replay.Setting.{Setting}
+use Rattle.dep_commands.specs.declared.replaying.Setting.{Setting}
 
 -- the connection of this inlet to this outlet
 abbrev pub wire_of : {R W : Type 0} → (g : inlet.Ghosts R) → (h : outlet.Ghosts W)

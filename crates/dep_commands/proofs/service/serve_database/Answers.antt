@@ -5,9 +5,9 @@ use Rattle.sqlite.proofs.StateLemmas.{clean_if_open}
 use Rattle.dep_types.specs.declared.config.Config.{Config}
 use Rattle.dep_program.specs.Setup.{program_config, base_at}
 use Rattle.dep_program.specs.declared.outcome.Outcome.{Outcome}
-use Rattle.swordd.specs.Databases.{ServesDatabase, left_alone}
-use Rattle.swordd.proofs.DatabaseLemmas.{opening_left, served, fails}
-use Rattle.swordd.proofs.service.serve_database.Goals as goal
+use Rattle.dep_commands.specs.Databases.{ServesDatabase, left_alone}
+use Rattle.dep_commands.proofs.DatabaseLemmas.{opening_left, served, fails}
+use Rattle.dep_commands.proofs.service.serve_database.Goals as goal
 
 pub returns-in_default-clause-serves : goal.returns-in_default-clause-serves
 returns-in_default-clause-serves g c = left_alone refl

@@ -1,7 +1,7 @@
 use Rattle.std.proofs.Common.{◌∙◌, ap, sym}
 use Rattle.dep_program.specs.Outcomes.{outcome_sent}
-use Rattle.swordd.proofs.ReplayLemmas.{done_open}
-use Rattle.swordd.proofs.replay.replay_gathered.Goals as goal
+use Rattle.dep_commands.proofs.ReplayLemmas.{done_open}
+use Rattle.dep_commands.proofs.replaying.replay_gathered.Goals as goal
 
 pub returns-clause-replays : goal.returns-clause-replays
 returns-clause-replays g c = (

@@ -6,10 +6,10 @@ use Rattle.dep_types.specs.Config.{IsChecked}
 use Rattle.dep_types.specs.declared.config.Config.{Config}
 use Rattle.dep_connection.specs.Conversation.{session}
 use Rattle.dep_hub.specs.Representing.{IsHonest}
-use Rattle.swordd.specs.Replays.{Replays, not_begun, wire_of}
+use Rattle.dep_commands.specs.Replays.{Replays, not_begun, wire_of}
 use Rattle.dep_program.specs.declared.outcome.Outcome.{Outcome}
-use Rattle.swordd.proofs.ReplayLemmas.{comes_to, not_replayed, rests_same}
-use Rattle.swordd.proofs.replay.replay_database.Goals as goal
+use Rattle.dep_commands.proofs.ReplayLemmas.{comes_to, not_replayed, rests_same}
+use Rattle.dep_commands.proofs.replaying.replay_database.Goals as goal
 
 pub returns-in_default-clause-replays : goal.returns-in_default-clause-replays
 returns-in_default-clause-replays g c none clean =

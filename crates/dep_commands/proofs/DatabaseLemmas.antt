@@ -23,8 +23,8 @@ use Rattle.dep_hub.specs.declared.faults.HubFault.TheVariants as refused
 use Rattle.dep_hub.specs.declared.hub.Hub.{Hub}
 use Rattle.dep_program.specs.Serves.{all_records_of, ServesAt}
 use Rattle.dep_program.specs.declared.outcome.Outcome.{Outcome}
-use Rattle.swordd.specs.Databases.{IsKept, LedTo, GoesOn, ServesDatabase, serves, not_bound, unchecked, left_alone, not_begun, not_opened}
-use Rattle.swordd.proofs.ReplayLemmas.{world_at_first}
+use Rattle.dep_commands.specs.Databases.{IsKept, LedTo, GoesOn, ServesDatabase, serves, not_bound, unchecked, left_alone, not_begun, not_opened}
+use Rattle.dep_commands.proofs.ReplayLemmas.{world_at_first}
 
 -- a stop leaves of an opening for a hub what it leaves of an opening
 pub opening_left : {config : Config} (old new : db.State) → OpeningLeaves config old new → OpenLeaves old new

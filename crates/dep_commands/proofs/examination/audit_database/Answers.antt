@@ -3,9 +3,9 @@ use Rattle.std.proofs.KnownBytes.{Appends-nil}
 use Rattle.sqlite.specs.Held.{Held, state}
 use Rattle.sqlite.specs.State.{HasCleanDisk}
 use Rattle.sqlite.proofs.StateLemmas.{clean_if_open}
-use Rattle.swordd.specs.Examinations.{AuditsDatabase}
-use Rattle.swordd.proofs.ExaminationLemmas.{audits_none, audits_all}
-use Rattle.swordd.proofs.examination.audit_database.Goals as goal
+use Rattle.dep_commands.specs.Examinations.{AuditsDatabase}
+use Rattle.dep_commands.proofs.ExaminationLemmas.{audits_none, audits_all}
+use Rattle.dep_commands.proofs.examination.audit_database.Goals as goal
 
 pub returns-in-Ok-clause-audits : goal.returns-in-Ok-clause-audits
 returns-in-Ok-clause-audits g c =
