@@ -16,8 +16,9 @@ import tempfile
 import time
 from urllib.parse import urlsplit
 
+from clocks import build_clock
 from crates import ROOT, built_program
-from example_play import MOMENT, NAMES, Play, Wrong, cells_of, pieces, play_lines
+from example_play import LEFT_OUT, MOMENT, NAMES, Play, Wrong, cells_of, pieces, play_lines
 
 WRITTEN = b"127.0.0.1:8080"
 OTHER_SPELLINGS = re.compile(rb"127\.1:8080|0x7f\.0\.0\.1:8080|127\.0\.0\.1:08080")
@@ -27,6 +28,9 @@ MOST_SENT = 65_536
 HOPS = (b"connection:", b"keep-alive:", b"server:")
 # What nginx answers by itself to a request that it doesn't take for one.
 ANSWERED_BY_NGINX = re.compile(rb"HTTP/1.1 (?:400|405|414|501|505) .*<center>nginx</center>", re.S)
+# What is asked until a reply has another moment, and how often at most.
+PROBE = b"GET /nothing HTTP/1.1\r\nHost: 127.0.0.1:8080\r\nConnection: close\r\n\r\n"
+MOST_PROBES = 20
 # The seconds that are waited for the rest of what is already wrong.
 WAIT_FOR_REST = 0.2
 # The seconds in which a server has to take connections once it has an empty store.
@@ -43,6 +47,13 @@ NEEDS = {
     "a call that is no request": {"export", "audit", "intake", "shut", "refused"},
     "1,024 connections": {"crowd", "full", "gone"},
 }
+# The same of a server of this repository in a folder of its own, whose clock is set and whose store is changed, exported and audited.
+OWN_NEEDS = {**NEEDS, "a moment": set(), "a statement": {"unopened", "store-fault"}, "a call that is no request": {"intake", "shut", "refused"}}
+# A host finds the rows of a content by their places, so these come otherwise there.
+BY_ARRIVAL = ("a row of another part or place stands where that is in their order", "a row of 65536 or of 65537 bytes in another part or place")
+# The commands that such a server's program has.
+COMMANDS = re.compile(r"export \S+|audit (?:all|\d+)")
+FRESH = ROOT / "checks/fresh"
 FORMS = (b"%a, %d %b %Y %H:%M:%S GMT", b"%Y-%m-%dT%H:%M:%SZ", b"%Y-%m-%d")
 BAG_INFO = re.compile(rb"Bagging-Date: (\S+)\nPayload-Oxum: \d+\.\d+\n")
 
@@ -51,10 +62,21 @@ class Skipped(Exception):
     """What an example needs that this server can't be given."""
 
 
-def need_of(lines):
+def need_of(lines, needs=NEEDS):
     """What the lines of an example need that no request brings about, or None."""
     words = {line.partition(" ")[0] for _, line in lines}
-    return next((need for need, those in NEEDS.items() if words & those), None)
+    return next((need for need, those in needs.items() if words & those), None)
+
+
+def own_need_of(title, lines):
+    """What an example needs that a server of our own can't be given, or None."""
+    if title in BY_ARRIVAL:
+        return "one piece of a damaged content"
+    if any(re.fullmatch(r"at (?!\d{1,18}$).*", line) for _, line in lines):
+        return "moments that no clock shows"
+    if any(line.startswith(("export ", "audit ")) and not COMMANDS.fullmatch(line) for _, line in lines):
+        return "a call that no command makes"
+    return need_of(lines, OWN_NEEDS)
 
 
 def spelled(moment):
@@ -177,14 +199,21 @@ class Clock:
                 yield hashlib.new(algorithm, info).hexdigest().encode(), told
 
 
+class SetClock:
+    """A server's clock that tells the moments that are written."""
+
+    def as_written(self, want, came):
+        return bytes(came)
+
+
 class Place:
     """A server at a URL: its sockets, and what gives it an empty store."""
 
-    def __init__(self, url, freshen, patience=5.0, is_single=False, seconds=2, piece="whole", is_proxied=False):
+    def __init__(self, url, freshen, patience=5.0, is_single=False, seconds=2, piece="whole", is_proxied=False, own=None):
         parts = urlsplit(url)
         self.address = parts.hostname, parts.port or 80
-        self.authority = parts.netloc.encode()
-        self.freshen, self.patience, self.is_single = freshen, patience, is_single
+        self.authority = WRITTEN if own else parts.netloc.encode()
+        self.freshen, self.patience, self.is_single, self.own = freshen, patience, is_single, own
         self.seconds, self.piece, self.is_proxied, self.is_fresh = seconds, piece, is_proxied, False
 
     def empty(self, configured):
@@ -192,6 +221,28 @@ class Place:
         if configured or not self.is_fresh:
             self.freshen(configured)
         self.is_fresh = not configured
+
+    def moves_clock(self, moment):
+        """A server of our own tells this moment from here on, and so does its store."""
+        self.is_fresh = self.own.set_moment(moment) and self.is_fresh
+
+    def goes_by(self, moment):
+        """A server of our own goes by this moment, once it has answered by it: behind a long round it keeps one for some rounds."""
+        date = b"Date: " + spelled(moment)[0]
+        for _ in range(MOST_PROBES):
+            with self.connect() as probe:
+                probe.sendall(PROBE)
+                if date in probe.recv(MOST_SENT):
+                    return
+
+    def starts_again(self, configured):
+        """A server of our own is started over its store, which an earlier one has left."""
+        self.freshen(configured, KEPT="1")
+
+    def ends_own(self):
+        """A server of our own ends."""
+        self.own.end()
+        self.is_fresh = False
 
     def notice(self, stream):
         """Notes that the store may be another once this is sent."""
@@ -217,16 +268,19 @@ def folder_in_memory():
     return "/dev/shm" if os.path.isdir("/dev/shm") else None
 
 
-def conform(url, name, port, words, is_behind_proxy=False):
+def conform(url, name, port, words, is_behind_proxy=False, is_own=False):
     """Runs checks/conform with these words against a program at this port, which is started anew over an empty store for each
     example. Returns its status."""
-    fresh, named = ROOT / "checks/fresh", {**os.environ, name.upper(): str(built_program(name))}
+    named = {**os.environ, name.upper(): str(built_program(name))}
     with tempfile.TemporaryDirectory(dir=folder_in_memory()) as folder:
-        command = f"{fresh} {name} {port} {folder}" + (f" {url}" if is_behind_proxy else "")
+        command = f"{FRESH} {name} {port} {folder}" + (f" {url}" if is_behind_proxy else "")
+        if is_own:
+            named |= {"CLOCK": str(build_clock(folder)), "BASE": f"http://{WRITTEN.decode()}"}
+            words = ["--own", folder, *words]
         try:
             return subprocess.run([ROOT / "checks/conform", url, "--fresh", command, *words], env=named, check=False).returncode
         finally:
-            subprocess.run([fresh, "--end", folder], check=False)
+            subprocess.run([FRESH, "--end", folder], check=False)
 
 
 class Line:
@@ -313,19 +367,40 @@ class Line:
 
 
 class SocketPlay(Play):
-    """An example that is played over sockets. `restart` and `reopen` give it new connections, no more."""
+    """An example that is played over sockets. `restart` and `reopen` give it new connections, and another server where that is of our
+    own, and what changes the store ends it."""
+
+    left_out = LEFT_OUT - {"sql", "store"}
 
     def __init__(self, words, place):
         super().__init__(words, "whole", False)
-        self.place, self.clock, self.lines = place, Clock(place.seconds), {}
-        self.configured, self.has_begun = {}, False
+        self.place, self.lines, self.own = place, {}, place.own
+        self.clock = SetClock() if self.own else Clock(place.seconds)
+        self.configured, self.has_begun, self.has_server = {}, False, False
+        if self.own:
+            place.moves_clock(MOMENT)
 
     def sets(self, word, rest):
         if word == "config":
             self.configure(*rest.split(" ", 1))
+        elif word == "at":
+            self.place.moves_clock(int(rest))
+            if self.has_server:
+                self.place.goes_by(int(rest))
         elif word in ("restart", "reopen"):
-            self.end()
-            self.current = 1
+            self.leave()
+        elif word == "next":
+            self.change("UPDATE state SET next_{} = {}".format(*rest.split(" ")))
+        elif word == "sql":
+            self.change(rest)
+        elif word == "store":
+            self.fill(rest)
+        elif word == "export":
+            self.rests()
+            self.call = self.own.exported(rest)
+        elif word == "audit":
+            self.rests()
+            self.call = self.own.audited() if rest == "all" else self.own.audited_object(int(rest))
         elif word == "connection":
             self.current = int(rest)
         elif word == "close":
@@ -335,16 +410,49 @@ class SocketPlay(Play):
             raise Wrong(f"no line begins with {word}")
 
     def configure(self, name, value):
-        if self.has_begun:
+        if self.has_server and not self.own:
             raise Skipped("a configuration that changes")
         kind = type(getattr(self.config, NAMES[name]))
         self.configured[NAMES[name]] = value == "true" if kind is bool else kind(value)
 
-    def ends(self, word):
-        """Plays an exchange and compares what came. One that is ended or served has a connection of its own."""
+    def leave(self):
+        """Its connections end, and with them a server of our own."""
+        self.end()
+        self.current = 1
+        self.has_server = self.has_server and not self.own
+
+    def rests(self):
+        """A server that has made its tables has ended."""
+        if not self.has_begun:
+            self.begin()
+            Line(self.place).end()
+        self.leave()
+        self.place.ends_own()
+
+    def change(self, statements):
+        """Statements change the store."""
+        self.rests()
+        self.own.change(statements)
+
+    def fill(self, statements):
+        """Statements make the store."""
+        self.place.ends_own()
+        for file in self.own.folder.glob("deposits.db*"):
+            file.unlink()
+        self.own.change(statements)
+        self.has_begun = True
+
+    def begin(self):
+        """A server is there by this configuration: over an empty store, or over what the last one left."""
         if not self.has_begun:
             self.place.empty(self.configured)
-            self.has_begun = True
+        elif not self.has_server:
+            self.place.starts_again(self.configured)
+        self.has_begun = self.has_server = True
+
+    def ends(self, word):
+        """Plays an exchange and compares what came. One that is ended or served has a connection of its own."""
+        self.begin()
         stream, want = (moved(it, self.place.authority) for it in (self.stream, self.want))
         if word in ("ended", "served"):
             self.current = OWN
@@ -400,9 +508,9 @@ def play(words, lines, place):
             playing.end()
 
 
-def play_example(words, lines, place):
+def play_example(title, words, lines, place):
     """Plays an example once for each of its rows. Returns how often it was played; raises Skipped where it never was."""
-    need = need_of(lines)
+    need = own_need_of(title, lines) if place.own else need_of(lines)
     if need:
         raise Skipped(need)
     played, skipped = 0, None
@@ -414,6 +522,6 @@ def play_example(words, lines, place):
             skipped = reason
         except Wrong as wrong:
             raise Wrong(f"row {list(cells.values())}: {wrong}" if cells else str(wrong)) from None
-    if not played:
+    if not played or skipped and place.own:
         raise skipped
     return played

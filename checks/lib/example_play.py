@@ -8,8 +8,10 @@ import re
 from typing import NamedTuple
 
 import model
-from crates import DATA
+from crates import DATA, ROOT
 
+# How many examples of each file no socket brings about.
+NO_SOCKET = ROOT / "checks/no_socket.txt"
 MOMENT = 1_523_836_800
 WORDS = ("open", "closed", "cut", "gone", "ended", "served")
 CALLED = ("done", "damaged", "no-such-object", "transfer-fault")
@@ -84,6 +86,9 @@ def given(bag, failing):
 class Play:
     """An example that is played, its bytes cut in one way."""
 
+    # The first words of lines that it doesn't play.
+    left_out = LEFT_OUT
+
     def __init__(self, words, way, lengths):
         self.words, self.way, self.lengths = dict(words), way, lengths
         self.config, self.archive, self.server = model.Config(), model.Archive(), None
@@ -95,7 +100,7 @@ class Play:
         word, _, rest = line.partition(" ")
         if word in ("", "//", "pieces", "each", "-"):
             return
-        if word in LEFT_OUT:
+        if word in self.left_out:
             raise LeftOut
         if word in "<>":
             front = rest[:-1] if rest.endswith("\\") else rest + "\\r\\n"
@@ -288,6 +293,19 @@ def is_of_a_host(path):
 def listed_files():
     """The files that the gate plays, texts.txt first."""
     return [DATA / it for it in (DATA.parent / "args").read_text(encoding="utf-8").split()]
+
+
+def counts_in(path):
+    """How many examples of each file a list names."""
+    return {name: int(count) for name, count in re.findall(r"(?m)^(\S+): (\d+) examples", path.read_text(encoding="utf-8"))}
+
+
+def counts_over_sockets():
+    """How many examples of each file are played over sockets: all that the gate counts, but for those that no socket brings about."""
+    counts = counts_in(DATA.parent / "stdout")
+    for name, count in counts_in(NO_SOCKET).items():
+        counts[name] -= count
+    return counts
 
 
 def put(path, text, is_check):

@@ -354,8 +354,8 @@ def listed(names):
 
 
 def chosen_files():
-    """Those that the gate plays, but for those that a host of the player plays."""
-    return [it.name for it in listed_files() if not is_of_a_host(it)]
+    """All but those of a host of the player, and those on the order of refusals, which checks/conform-swordd plays one by one."""
+    return [it.name for it in listed_files() if not is_of_a_host(it) and not it.name.startswith("order-")]
 
 
 def play_one(hosts, told, words, lines, way):
