@@ -48,9 +48,12 @@ NEEDS = {
     "1,024 connections": {"crowd", "full", "gone"},
 }
 # The same of a server of this repository in a folder of its own, whose clock is set and whose store is changed, exported and audited.
-OWN_NEEDS = {**NEEDS, "a moment": set(), "a statement": {"unopened", "store-fault"}, "a call that is no request": {"intake", "shut", "refused"}}
-# A host finds the rows of a content by their places, so these come otherwise there.
-BY_ARRIVAL = ("a row of another part or place stands where that is in their order", "a row of 65536 or of 65537 bytes in another part or place")
+OWN_NEEDS = {**NEEDS, "a moment": set(), "a statement": {"unopened", "store-fault"},
+             "a call that is no request": {"intake", "shut", "refused"}}
+# A host sends a content in turns, and looks for each of its rows at its place: where a row stands at another, it cuts the content, and
+# a connection that is served by itself takes what stands there in their order.
+IN_ORDER = ("a row of another part or place stands where that is in their order",
+            "a row of 65536 or of 65537 bytes in another part or place")
 # The commands that such a server's program has.
 COMMANDS = re.compile(r"export \S+|audit (?:all|\d+)")
 FRESH = ROOT / "checks/fresh"
@@ -70,8 +73,8 @@ def need_of(lines, needs=NEEDS):
 
 def own_need_of(title, lines):
     """What an example needs that a server of our own can't be given, or None."""
-    if title in BY_ARRIVAL:
-        return "one piece of a damaged content"
+    if title in IN_ORDER:
+        return "rows that are taken in their order"
     if any(re.fullmatch(r"at (?!\d{1,18}$).*", line) for _, line in lines):
         return "moments that no clock shows"
     if any(line.startswith(("export ", "audit ")) and not COMMANDS.fullmatch(line) for _, line in lines):
