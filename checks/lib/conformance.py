@@ -16,7 +16,6 @@ import tempfile
 import time
 from urllib.parse import urlsplit
 
-from clocks import build_clock
 from crates import ROOT, built_program
 from example_play import LEFT_OUT, MOMENT, NAMES, Play, Wrong, cells_of, pieces, play_lines
 
@@ -56,7 +55,6 @@ IN_ORDER = ("a row of another part or place stands where that is in their order"
             "a row of 65536 or of 65537 bytes in another part or place")
 # The commands that such a server's program has.
 COMMANDS = re.compile(r"export \S+|audit (?:all|\d+)")
-FRESH = ROOT / "checks/fresh"
 FORMS = (b"%a, %d %b %Y %H:%M:%S GMT", b"%Y-%m-%dT%H:%M:%SZ", b"%Y-%m-%d")
 BAG_INFO = re.compile(rb"Bagging-Date: (\S+)\nPayload-Oxum: \d+\.\d+\n")
 
@@ -240,7 +238,7 @@ class Place:
 
     def starts_again(self, configured):
         """A server of our own is started over its store, which an earlier one has left."""
-        self.freshen(configured, KEPT="1")
+        self.own.start(configured, is_kept=True)
 
     def ends_own(self):
         """A server of our own ends."""
@@ -274,16 +272,14 @@ def folder_in_memory():
 def conform(url, name, port, words, is_behind_proxy=False, is_own=False):
     """Runs checks/conform with these words against a program at this port, which is started anew over an empty store for each
     example. Returns its status."""
-    named = {**os.environ, name.upper(): str(built_program(name))}
+    fresh, named = ROOT / "checks/fresh", {**os.environ, name.upper(): str(built_program(name))}
     with tempfile.TemporaryDirectory(dir=folder_in_memory()) as folder:
-        command = f"{FRESH} {name} {port} {folder}" + (f" {url}" if is_behind_proxy else "")
-        if is_own:
-            named |= {"CLOCK": str(build_clock(folder)), "BASE": f"http://{WRITTEN.decode()}"}
-            words = ["--own", folder, *words]
+        command = f"{fresh} {name} {port} {folder}" + (f" {url}" if is_behind_proxy else "")
+        how = ["--own", folder] if is_own else ["--fresh", command]
         try:
-            return subprocess.run([ROOT / "checks/conform", url, "--fresh", command, *words], env=named, check=False).returncode
+            return subprocess.run([ROOT / "checks/conform", url, *how, *words], env=named, check=False).returncode
         finally:
-            subprocess.run([FRESH, "--end", folder], check=False)
+            subprocess.run([fresh, "--end", folder], check=False)
 
 
 class Line:
@@ -440,8 +436,7 @@ class SocketPlay(Play):
     def fill(self, statements):
         """Statements make the store."""
         self.place.ends_own()
-        for file in self.own.folder.glob("deposits.db*"):
-            file.unlink()
+        self.own.remove_store()
         self.own.change(statements)
         self.has_begun = True
 

@@ -1,5 +1,6 @@
 """A server of this repository that checks/conform plays against: its clock is set, and its store changed, exported and audited."""
 
+import json
 import os
 import pathlib
 import re
@@ -7,9 +8,11 @@ import sqlite3
 import subprocess
 import tempfile
 
-from clocks import set_moment
-from conformance import FRESH
+from clocks import build_clock, set_moment
+from crates import built_program
 from example_play import MOMENT
+from model import Config
+from served import ADDRESS
 
 # How the commands of its program end.
 ENDS = {("export", 0): "done", ("export", 1): "no-such-object", ("audit", 0): "done", ("audit", 4): "damaged", ("audit", 2): "store-fault"}
@@ -27,13 +30,31 @@ def given_bag(bag):
     return (b"folder data\r\n" if (bag / "data").is_dir() else b"") + files
 
 
-class OwnFolder:
-    """Where a server of this repository stands whose clock is set and whose store is changed (checks/fresh): its base is the written
-    one, so that all has to come as it is written."""
+class OwnServer:
+    """A host in a folder of its own, whose clock is set and whose store is changed. Its base is the written one, whatever its port, so
+    that all has to come as it is written."""
 
-    def __init__(self, folder):
-        self.folder = pathlib.Path(folder)
-        self.store, self.moment = self.folder / "deposits.db", None
+    def __init__(self, folder, port):
+        self.folder, self.program = pathlib.Path(folder), built_program("swordd_host")
+        self.store, self.moment, self.process = self.folder / "deposits.db", None, None
+        self.named = {**os.environ, "LD_PRELOAD": str(build_clock(folder)), "MOMENT": str(self.folder / "moment")}
+        self.settings = {**vars(Config()), "address": ADDRESS, "port": port, "database": str(self.store), "spool_folder": str(folder),
+                         "connections": 1_000_000, "reserve_bytes": 0}
+
+    def start(self, configured, is_kept=False):
+        """Starts it anew by this configuration: over an empty store, or over the one that it left."""
+        self.end()
+        if not is_kept:
+            self.remove_store()
+        configuration = self.folder / "configuration.json"
+        configuration.write_text(json.dumps({**self.settings, **configured}))
+        with open(self.folder / "said", "wb") as said:
+            self.process = subprocess.Popen([self.program, configuration], env=self.named, stdin=subprocess.DEVNULL, stdout=said,
+                                            stderr=said)
+
+    def remove_store(self):
+        for file in self.folder.glob(f"{self.store.name}*"):
+            file.unlink()
 
     def set_moment(self, moment):
         """Moves its clock. Returns whether it shows the moment of the examples, as at first."""
@@ -44,11 +65,14 @@ class OwnFolder:
 
     def end(self):
         """Ends it. Its store stays."""
-        subprocess.run([FRESH, "--end", self.folder], env={**os.environ, "KEPT": "1"}, check=True)
+        if self.process:
+            self.process.kill()
+            self.process.wait()
+            self.process = None
 
     def run(self, *words):
         """How a command ends over its store, once it has ended itself, and what it prints."""
-        ran = subprocess.run(["swordd", *words], executable=os.environ["SWORDD_HOST"], capture_output=True, check=False)
+        ran = subprocess.run(["swordd", *words], executable=self.program, capture_output=True, check=False)
         return ENDS.get((words[0], ran.returncode), f"status {ran.returncode}"), ran.stdout
 
     def exported(self, number):
