@@ -14,6 +14,9 @@ from example_play import MOMENT
 from model import Config
 from served import ADDRESS
 
+# Has the C library take memory in large pages, where the system has them: it is started some thousand times, and half of what a start
+# takes are the small ones.
+LARGE_PAGES = "glibc.malloc.hugetlb=1:glibc.malloc.mmap_threshold=1073741824:glibc.malloc.top_pad=16777216"
 # How the commands of its program end.
 ENDS = {("export", 0): "done", ("export", 1): "no-such-object", ("audit", 0): "done", ("audit", 4): "damaged", ("audit", 2): "store-fault"}
 # The files of a bag that have names of their own, in their order.
@@ -37,7 +40,8 @@ class OwnServer:
     def __init__(self, folder, port):
         self.folder, self.program = pathlib.Path(folder), built_program("swordd_host")
         self.store, self.moment, self.process = self.folder / "deposits.db", None, None
-        self.named = {**os.environ, "LD_PRELOAD": str(build_clock(folder)), "MOMENT": str(self.folder / "moment")}
+        self.named = {**os.environ, "LD_PRELOAD": str(build_clock(folder)), "MOMENT": str(self.folder / "moment"),
+                      "GLIBC_TUNABLES": LARGE_PAGES}
         self.settings = {**vars(Config()), "address": ADDRESS, "port": port, "database": str(self.store), "spool_folder": str(folder),
                          "connections": 1_000_000, "reserve_bytes": 0}
 
