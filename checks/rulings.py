@@ -1,10 +1,10 @@
 #!/usr/bin/env python3
-"""Writes the example files on the order of refusals: crates/examples/data/order-*.txt.
+"""Writes the examples on the order of refusals: crates/examples/data/order.txt.
 
     checks/rulings.py
-    checks/rulings.py --check        # says whether the files are as they would be written
+    checks/rulings.py --check        # says whether the file is as it would be written
 
-It tells how many cases each file has: requests, but those that only set something up, each once for each row.
+It tells how many cases the file has: requests, but those that only set something up, each once for each row.
 
 It shares no code with the server. checks/lib/order.py is the order of refusals, written from docs/PROFILE.md alone,
 and order_cases.py beside it has the requests; each one is looked up there before it is written. What the replies are made
@@ -635,31 +635,22 @@ def examples_of(section):
         yield full_example(section, used_up[-1:])
 
 
-# ---- files
+# ---- the file
 
 BAG = ("bagit.txt", "bag-info.txt", "manifest-sha256.txt", "manifest-sha512.txt", "metadata/sword.json", "tagmanifest-sha256.txt",
        "tagmanifest-sha512.txt", "data/1/a.txt")
-FILES = {
-    "order-deposits.txt": ("deposits of files and metadata", {"service": [*cases.deposits()]}),
-    "order-deposits-by-reference.txt": ("deposits by reference", {"uploads": [*cases.deposits_by_reference()]}),
-    "order-additions.txt": ("files and metadata that are added to an object", {"object": [*cases.additions()]}),
-    "order-additions-by-reference.txt": ("uploads that are added to an object", {"object and uploads": [*cases.additions_by_reference()]}),
-    "order-replacements.txt": ("what takes the place of all that an object has", {"object": [*cases.replacements()]}),
-    "order-completions.txt": ("an object that is complete", {"object": [*cases.completions()]}),
-    "order-replacements-by-reference.txt": (
-        "uploads that take the place of all that an object has", {"object and uploads": [*cases.replacements_by_reference()]}),
-    "order-files-by-reference.txt": (
-        "uploads that take the place of an object's files", {"object and uploads": [*cases.files_by_reference()]}),
-    "order-metadata.txt": ("other metadata of an object", {"object": [*cases.metadata()]}),
-    "order-files.txt": ("what takes the place of the files of an object, or of one", {"object": [*cases.file_replacements()]}),
-    "order-deletions.txt": ("what is deleted of an object", {"object": [*cases.deletions()]}),
-    "order-openings.txt": ("uploads that are opened", {"service": [*cases.openings()]}),
-    "order-segments.txt": ("segments of uploads", {"upload": [*cases.segments()]}),
-    "order-gets.txt": ("GET", {world: [*cases.reads("GET", world)] for world in cases.READ}),
-    "order-heads.txt": ("HEAD", {world: [*cases.reads("HEAD", world)] for world in cases.READ}),
-}
+FILE = DATA / "order.txt"
+# The operations, by the world in which they are played.
+OPERATIONS = [
+    ("service", cases.deposits()), ("uploads", cases.deposits_by_reference()), ("object", cases.additions()),
+    ("object and uploads", cases.additions_by_reference()), ("object", cases.replacements()), ("object", cases.completions()),
+    ("object and uploads", cases.replacements_by_reference()), ("object and uploads", cases.files_by_reference()),
+    ("object", cases.metadata()), ("object", cases.file_replacements()), ("object", cases.deletions()), ("service", cases.openings()),
+    ("upload", cases.segments()),
+    *((world, cases.reads(method, world)) for method in ("GET", "HEAD") for world in cases.READ),
+]
 HEAD = """\
-// The order of refusals: {}. checks/rulings.py writes this file, from docs/PROFILE.md alone.
+// The order of refusals, operation by operation. checks/rulings.py writes this file, from docs/PROFILE.md alone.
 //
 // First what breaks no rule: the request as it stands, and what it may have besides. Then the rules in their order: the rows are
 // ways to break one, which is the answer alone and together with what breaks a later one. What was refused has changed nothing:
@@ -680,7 +671,7 @@ def reading_texts():
 
 
 def named_texts(written, lines):
-    """The texts that the examples name and texts.txt hasn't, in the order in which a file has them."""
+    """The texts that the examples name and texts.txt hasn't, in the order in which the file has them."""
     used, replies = set(re.findall(r"\\\{(?:\d+ )?([^ }]+)\}", "\n".join(lines))), {}
     for example in written:
         replies |= example.replies
@@ -692,27 +683,32 @@ def named_texts(written, lines):
     yield from (as_text(name, text) for name, text in {**reading, **replies}.items() if name in used)
 
 
-def file_text(name):
-    """The text of a file, and how many cases it has."""
-    said, worlds = FILES[name]
-    sections = [Section(*titled, *what, world) for world, found in worlds.items() for *titled, what in found]
+def give_own_titles(written):
+    """A rule that an operation has broken by the same part before has `, again` behind its title."""
+    taken = set()
+    for example in written:
+        example.title += ", again" * (example.title in taken)
+        taken.add(example.title)
+    assert len(taken) == len(written), "a title stands twice"
+
+
+def file_text():
+    """The text of the file, and how many examples and cases it has."""
+    sections = [Section(*titled, *what, world) for world, found in OPERATIONS for *titled, what in found]
     written = [example for section in sections for example in examples_of(section)]
-    parts = [HEAD.format(said).split("\n"), HOST]
+    give_own_titles(written)
+    parts = [HEAD.split("\n"), HOST]
     bodies = [example.text() for example in written]
     parts += [*filter(None, named_texts(written, itertools.chain(*bodies))), *bodies]
-    return "\n\n".join("\n".join(part) for part in parts) + "\n", sum(example.cases for example in written)
+    return "\n\n".join("\n".join(part) for part in parts) + "\n", len(written), sum(example.cases for example in written)
 
 
 def main():
-    others, count = [], 0
-    for name in FILES:
-        text, cases_there = file_text(name)
-        count += cases_there
-        print(f"{name}: {cases_there} cases, {text.count(chr(10))} lines, {len(text.encode())} bytes")
-        if not put(DATA / name, text, "--check" in sys.argv):
-            others.append(name)
-    print(f"order of refusals: {count} cases")
-    sys.exit(f"not as they would be written: {' '.join(others)}" if others else 0)
+    text, examples, cases_there = file_text()
+    print(f"{FILE.name}: {text.count(chr(10))} lines, {len(text.encode())} bytes, {examples} examples")
+    is_as_written = put(FILE, text, "--check" in sys.argv)
+    print(f"order of refusals: {cases_there} cases")
+    sys.exit(0 if is_as_written else f"not as it would be written: {FILE.name}")
 
 
 if __name__ == "__main__":

@@ -355,7 +355,7 @@ def listed(names):
 
 def chosen_files():
     """All but those of a host of the player, and those on the order of refusals, which checks/conform-swordd plays one by one."""
-    return [it.name for it in listed_files() if not is_of_a_host(it) and not it.name.startswith("order-")]
+    return [it.name for it in listed_files() if not is_of_a_host(it) and it.name != "order.txt"]
 
 
 def play_one(hosts, told, words, lines, way):

@@ -1,4 +1,4 @@
-"""The order of refusals of docs/PROFILE.md once more, for the example files that checks/rulings.py writes.
+"""The order of refusals of docs/PROFILE.md once more, for the examples that checks/rulings.py writes.
 
 It is written from that page alone, and shares no code with the server nor with model.py. `accepted` says what a
 request asks for in a state, or which refusal is the answer. A request, the state and the configuration are a case: a

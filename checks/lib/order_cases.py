@@ -1,4 +1,4 @@
-"""What breaks a rule of the order of refusals and what breaks none, operation by operation: the cases of the example files
+"""What breaks a rule of the order of refusals and what breaks none, operation by operation: the cases of the examples
 that checks/rulings.py writes.
 
 A section is an operation that is accepted as it stands. What breaks one of its rules stands there with the rule's number in
