@@ -76,8 +76,8 @@ pub fn sending_ends<A: Archive, R: Source, K: Sink, S: Spool>()
 }
 
 /// A request that takes files, and waits, waits for those contents of them alone that are sent when it begins to: while it
-/// waits none begins. Each of these goes on in its turn, and ends, so that the request is answered.
-pub fn awaited_contents_end<A: Archive, R: Source, K: Sink, S: Spool>()
+/// waits none begins. That each of these goes on in its turn is `contents_go_on`, and that it ends is `sending_ends`.
+pub fn no_awaited_content_begins<A: Archive, R: Source, K: Sink, S: Spool>()
     ensures { BeginsNoneAwaited A.condition R.unread K.taken S.held }
 {
     replies_make_a_run::<A>();

@@ -31,7 +31,7 @@ use Rattle.dep_hub.specs.declared.rest.Behind.TheVariants.{Nothing, Content, Bro
 use Rattle.dep_hub.proofs.BehindLemmas.{behind_some, behinds_are, intakes_stay, others_are}
 use Rattle.dep_hub.proofs.ConnectionLemmas.{ascends_le}
 use Rattle.dep_hub.proofs.Leaving.{leaves_wider}
-use Rattle.dep_hub.proofs.TurnLemmas.{turn_of, turns_fewer, was_prepared}
+use Rattle.dep_hub.proofs.TurnLemmas.{turn_of, comes_nearer, was_prepared}
 use Rattle.dep_hub.proofs.PendingLemmas.{true_false}
 
 -- a request that stands first begins with a head
@@ -261,7 +261,7 @@ module _ {A : Type 0} (condition : A → Condition) (old new : Hub A) where
           | inl here ↦ inl (subst (λ (k : ℕ). MakesStepFor (behind_at old.connections.items k) (behind_at new.connections.items k)) (sym (eqb-true m n here)) step)
           | inr other ↦
               let apart : m ≢ n = grind (arith, nat_tests, other) in
-              inr (turns_fewer old new n m w.next w.intakes turn last was below is within apart)
+              inr (comes_nearer old new n m w.next w.intakes turn last was below is within apart)
         ]
   ]
 

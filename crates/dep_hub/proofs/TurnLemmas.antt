@@ -7,7 +7,7 @@ use Rattle.dep_message.specs.Places.{Reading}
 use Rattle.dep_hub.specs.Preparing.{HasTurn, HaveAtMost, is_preparing, prepared_below}
 use Rattle.dep_hub.specs.Representing.{intake_of}
 use Rattle.dep_hub.specs.RepresentsOwing.{behind_at}
-use Rattle.dep_hub.specs.WorkingAhead.{IsNoneBetween, IsTurnOf, goes_down, begins_anew, is_turn_before, turns_below}
+use Rattle.dep_hub.specs.WorkingAhead.{IsNoneBetween, IsTurnOf, goes_down, begins_anew, is_turn_before, turns_below, ComesNearer, fewer, anew}
 use Rattle.dep_hub.proofs.PendingLemmas.{true_false}
 use Rattle.dep_hub.specs.declared.connections.Connection.{Connection}
 use Rattle.dep_hub.specs.declared.hub.Hub.{Hub}
@@ -150,42 +150,29 @@ is_there (c ∷ cs) m p = elim (cases_Bool (c.number == m)) [
 ]
 
 module _ (last n a : ℕ) where
-  -- it comes behind the turn of another, of whom that was known
+  -- turns go on down from the last one's to this one's, which another's comes behind
   abbrev IsBehind : Type 0
-  IsBehind = ((a < last) × (n < last → n < a)) ⊎ ((last ≤ n) × (n < a))
+  IsBehind = (a < last) × (n < last → n < a)
 
   before_still : IsBehind → (m : ℕ) → is_turn_before a n m ≡ true → is_turn_before last n m ≡ true
   before_still b m t = elim (cases_lt n last) [
-    | inl lt ↦ elim b [
-      | inl d ↦ let less = d.1 lt in let down = d.0 in grind (arith, nat_tests, lt, less, down, t)
-      | inr u ↦ let ge = u.0 in absurd (omega (arith, ge, lt))
-    ]
-    | inr ge ↦ elim b [
-      | inl d ↦ let down = d.0 in grind (arith, nat_tests, ge, down, t)
-      | inr u ↦ let less = u.1 in grind (arith, nat_tests, ge, less, t)
-    ]
+    | inl lt ↦ let less = b.1 lt in let down = b.0 in grind (arith, nat_tests, lt, less, down, t)
+    | inr ge ↦ let down = b.0 in grind (arith, nat_tests, ge, down, t)
   ]
 
   was_before : IsBehind → is_turn_before last n a ≡ true
   was_before b = elim (cases_lt n last) [
-    | inl lt ↦ elim b [
-      | inl d ↦ let less = d.1 lt in let down = d.0 in grind (arith, nat_tests, lt, less, down)
-      | inr u ↦ let ge = u.0 in absurd (omega (arith, ge, lt))
-    ]
-    | inr ge ↦ elim b [
-      | inl d ↦ let down = d.0 in grind (arith, nat_tests, ge, down)
-      | inr u ↦ let less = u.1 in grind (arith, nat_tests, ge, less)
-    ]
+    | inl lt ↦ let less = b.1 lt in let down = b.0 in grind (arith, nat_tests, lt, less, down)
+    | inr ge ↦ let down = b.0 in grind (arith, nat_tests, ge, down)
   ]
 
-  no_more : n ≢ a → is_turn_before a n a ≡ false
-  no_more other = elim (cases_lt n a) [
-    | inl lt ↦ grind (arith, nat_tests, lt)
-    | inr ge ↦ grind (arith, nat_tests, ge, other)
-  ]
+-- none has its turn before itself
+no_more : (n a : ℕ) → is_turn_before a n a ≡ false
+no_more n a = grind (arith, nat_tests)
 
--- who is prepared, and whose turn it isn't, comes behind the turn of the one whose it is
-is_behind : (cs : List Connection) (last next a n : ℕ) → IsTurnOf cs last next a → is_preparing (behind_at cs n) ≡ true → n < next → n ≢ a → IsBehind last n a
+-- who is prepared, and whose turn it isn't, comes behind the turn of the one whose it is, or turns go down to it from now on
+is_behind : (cs : List Connection) (last next a n : ℕ) → IsTurnOf cs last next a → is_preparing (behind_at cs n) ≡ true → n < next → n ≢ a
+    → IsBehind last n a ⊎ ((last ≤ n) × (n < a))
 is_behind cs last next a n (goes_down less none) p below other = inl (less, (λ lt. let l = none n p lt in omega (arith, l, other)))
 is_behind cs last next a n (begins_anew above none) p below other = inr (above n p, (let l = none n p below in omega (arith, l, other)))
 
@@ -194,13 +181,11 @@ both true true e = (refl, refl)
 both true false e = cc e
 both false y e = cc e
 
--- where it was another's turn, fewer come before
-pub turns_fewer : {A : Type 0} (old new : Hub A) (a n : ℕ) → new.next ≡ old.next → ((m : ℕ) → intake_of new.connections.items m ≡ intake_of old.connections.items m)
-    → IsTurnOf old.connections.items old.last_turn old.next a → new.last_turn ≡ a → is_preparing (behind_at old.connections.items a) ≡ true → a < old.next
-    → is_preparing (behind_at old.connections.items n) ≡ true → n < old.next → n ≢ a
+-- where turns go on down to another's, fewer come before
+turns_fewer : {A : Type 0} (old new : Hub A) (a n : ℕ) → new.next ≡ old.next → ((m : ℕ) → intake_of new.connections.items m ≡ intake_of old.connections.items m)
+    → new.last_turn ≡ a → is_preparing (behind_at old.connections.items a) ≡ true → a < old.next → IsBehind old.last_turn n a
     → turns_below new n new.next < turns_below old n old.next
-turns_fewer old new a n next intakes turn last was within p below other =
-    let behind = is_behind old.connections.items old.last_turn old.next a n turn p below other in
+turns_fewer old new a n next intakes last was within behind =
     let there : is_some (intake_of old.connections.items a) ≡ true = is_there old.connections.items a was in
     let still : (m : ℕ) → comes_before new n m ≡ true → comes_before old n m ≡ true = λ m t.
     let x = both (is_some (intake_of new.connections.items m)) (is_turn_before new.last_turn n m) t in
@@ -211,8 +196,16 @@ turns_fewer old new a n next intakes turn last was within p below other =
     let gone : comes_before new n a ≡ false =
     ap (λ (k : ℕ). is_some (intake_of new.connections.items a) && is_turn_before k n a) last
     ∙ ap (λ (t : Bool). t && is_turn_before a n a) (ap (λ (o : Option Reading). is_some o) (intakes a) ∙ there)
-    ∙ no_more a n a other in
+    ∙ no_more n a in
     let less = count_less (comes_before new n) (comes_before old n) old.next a within gone here still in
     subst (λ (k : ℕ). turns_below new n k < turns_below old n old.next) (sym next)
     (subst (λ (k : ℕ). k < turns_below old n old.next) (sym (turns_count new n old.next))
     (subst (λ (k : ℕ). count (comes_before new n) old.next < k) (sym (turns_count old n old.next)) less))
+
+pub comes_nearer : {A : Type 0} (old new : Hub A) (a n : ℕ) → new.next ≡ old.next → ((m : ℕ) → intake_of new.connections.items m ≡ intake_of old.connections.items m)
+    → IsTurnOf old.connections.items old.last_turn old.next a → new.last_turn ≡ a → is_preparing (behind_at old.connections.items a) ≡ true → a < old.next
+    → is_preparing (behind_at old.connections.items n) ≡ true → n < old.next → n ≢ a → ComesNearer old new n
+comes_nearer old new a n next intakes turn last was within p below other = elim (is_behind old.connections.items old.last_turn old.next a n turn p below other) [
+  | inl behind ↦ fewer (turns_fewer old new a n next intakes last was within behind) (λ lt. subst (λ (k : ℕ). n < k) (sym last) (behind.1 lt))
+  | inr up ↦ anew up.0 (subst (λ (k : ℕ). n < k) (sym last) up.1)
+]

@@ -1,5 +1,5 @@
 -- What working ahead does to a hub, and how the preparing of requests ends.
-use Rattle.std.specs.Prelude.{◌≡◌, ◌⊎◌, ◌<◌, ◌≤◌, ◌+◌, ◌&&◌, ◌||◌, nat_lt, is_some, ℕ, zero, suc, Bool, true, false, List, Option, if◌then◌else◌}
+use Rattle.std.specs.Prelude.{◌≡◌, ◌⊎◌, ◌<◌, ◌≤◌, ◌+◌, ◌&&◌, nat_lt, is_some, ℕ, zero, suc, Bool, true, false, List, Option, if◌then◌else◌}
 use Rattle.dep_types.specs.Conditions.{Condition}
 use Rattle.dep_hub.specs.Records.{World}
 use Rattle.dep_hub.specs.Archives.{KeepsEachState}
@@ -12,13 +12,12 @@ use Rattle.dep_hub.specs.declared.rest.Behind.TheVariants.{Nothing, Broken}
 use Rattle.dep_hub.specs.declared.connections.Connection.{Connection}
 use Rattle.dep_hub.specs.declared.hub.Hub.{Hub}
 
--- no connection whose next request is prepared has a number below this one, but above that
+-- whoever of those below a number has its next request prepared has none above this one
 abbrev pub IsNoneBetween : List Connection → (low high : ℕ) → Type 0
 IsNoneBetween connections low high = (m : ℕ) → is_preparing (behind_at connections m) ≡ true
     → m < high → m ≤ low
 
--- It is the turn of a number: of those below the last one's the greatest, or where there is none the greatest of
--- all. So who comes later, and has a greater number, doesn't come before who waits.
+-- It is the turn of a number: of those below the last one's the greatest, or where there is none the greatest of all.
 pub data IsTurnOf (connections : List Connection) (last next number : ℕ) : Type 0 where
   goes_down : number < last → IsNoneBetween connections number last
       → IsTurnOf connections last next number
@@ -40,11 +39,11 @@ abbrev pub steps_below : List Connection → (next : ℕ) → ℕ
 steps_below connections zero = 0
 steps_below connections (suc n) = steps_below connections n + steps_of (behind_at connections n)
 
--- A number has its turn before another: going down from the last one's to 0, and then from the greatest.
+-- One has its turn before a number, while turns go down from the last one's to 0: where it is above it, and where the
+-- number isn't below the last one's, so that it waits until they go down anew.
 abbrev pub is_turn_before : (last number before : ℕ) → Bool
 is_turn_before last number before =
-    if nat_lt number last then nat_lt number before && nat_lt before last
-    else nat_lt number before || nat_lt before last
+    nat_lt before last && (if nat_lt number last then nat_lt number before else true)
 
 -- how many connections of numbers below this have their turn before another
 abbrev pub turns_below : {A : Type 0} → Hub A → (number next : ℕ) → ℕ
@@ -53,9 +52,16 @@ turns_below hub number (suc n) = turns_below hub number n
     + (if is_some (intake_of hub.connections.items n) && is_turn_before hub.last_turn number n then 1
     else 0)
 
--- so many turns come before that of a number
+-- so many turns come before that of a number, or before turns go down anew
 abbrev pub turns_before : {A : Type 0} → Hub A → (number : ℕ) → ℕ
 turns_before hub number = turns_below hub number hub.next
+
+-- The turn of a number comes nearer: fewer come before it, or from now on turns go down to it, which they do until it has
+-- come. Who connects then has a greater number than the last one, and comes behind it.
+pub data ComesNearer {A : Type 0} (old new : Hub A) (number : ℕ) : Type 0 where
+  fewer : turns_before new number < turns_before old number
+      → (number < old.last_turn → number < new.last_turn) → ComesNearer old new number
+  anew : old.last_turn ≤ number → number < new.last_turn → ComesNearer old new number
 
 -- for all of a hub
 abbrev pub steps_left : {A : Type 0} → Hub A → ℕ
@@ -92,13 +98,13 @@ module _ {A : Type 0} (condition : A → Condition) where
   AheadEnds old new = RestsAhead old new → (m : ℕ)
       → is_preparing (behind_at old.connections.items m) ≡ true → steps_left new < steps_left old
 
-  -- It makes a step for a request that is prepared, or fewer turns come before that one's: as many calls as there are
+  -- It makes a step for a request that is prepared, or its turn comes nearer: so twice as many calls as there may be
   -- connections make one.
   abbrev pub AheadTakesTurns : Hub A → Hub A → Type 0
   AheadTakesTurns old new = RestsAhead old new → (m : ℕ)
       → is_preparing (behind_at old.connections.items m) ≡ true
       → MakesStepFor (behind_at old.connections.items m) (behind_at new.connections.items m)
-      ⊎ (turns_before new m < turns_before old m)
+      ⊎ ComesNearer old new m
 
   -- that begins where the request wasn't looked at before, and else goes on as it was
   abbrev pub PreparesOnce : Hub A → Hub A → Type 0

@@ -118,6 +118,7 @@ impl<A: Archive> Hub<A> {
         ensures store { self.new.store ≡ self.old.store }
         ensures next { IfOk result (λ number.
             (number ≡ self.old.next) × (self.new.next ≡ self.old.next + 1)) }
+        ensures turn { self.new.last_turn ≡ self.old.last_turn }
         // It refuses for a reason.
         ensures full { IsErrOf result ConnectFault.Full
             → (most_connections ≤ length self.old.connections.items)
@@ -169,6 +170,7 @@ impl<A: Archive> Hub<A> {
         ensures arrival { ComesTo A.condition (O.taken out.old) (O.taken out.new)
             (O.failures out.old) (O.failures out.new)
             self.old self.new connection piece.now moment result }
+        ensures turn { self.new.last_turn ≡ self.old.last_turn }
     {
         let Some(i) = index_among(self.connections.as_slice(), connection) else {
             return Arrived::NoSuch;
@@ -197,6 +199,7 @@ impl<A: Archive> Hub<A> {
             self.old self.new connection piece.now result }
         ensures behind { (m : ℕ) → behind_at self.new.connections.items m
             ≡ behind_at self.old.connections.items m }
+        ensures turn { self.new.last_turn ≡ self.old.last_turn }
     {
         let Some(i) = index_among(self.connections.as_slice(), connection) else {
             return Arrived::NoSuch;
@@ -242,6 +245,7 @@ impl<A: Archive> Hub<A> {
             behind_at self.new.connections.items connection ≢ Behind.Broken) }
         ensures replies { IfSome result (RepliesOver A.condition (O.taken out.old) (O.taken out.new)
             (O.failures out.old) (O.failures out.new) self.old self.new connection moment) }
+        ensures turn { self.new.last_turn ≡ self.old.last_turn }
     {
         let Some(i) = index_among(self.connections.as_slice(), connection) else {
             return Some(Next::NoSuch);
@@ -287,6 +291,7 @@ impl<A: Archive> Hub<A> {
         ensures there { IsSome (intake_of self.new.connections.items connection) }
         ensures keeps { (taken : Option (List ℕ)) (failures : ℕ)
             → KeepsBack A.condition taken taken failures failures self.old self.new connection }
+        ensures turn { self.new.last_turn ≡ self.old.last_turn }
     {
         self.connections[i].behind = behind;
         self.is_busy = is_any_pending(self.connections.as_slice());
@@ -311,6 +316,7 @@ impl<A: Archive> Hub<A> {
         ensures unbroken { behind_at self.new.connections.items connection ≢ Behind.Broken }
         ensures replies { RepliesOver A.condition (O.taken out.old) (O.taken out.new)
             (O.failures out.old) (O.failures out.new) self.old self.new connection moment result }
+        ensures turn { self.new.last_turn ≡ self.old.last_turn }
     {
         let kept = &mut self.connections[i];
         let context = Context {
@@ -369,6 +375,7 @@ impl<A: Archive> Hub<A> {
         ensures goes { GoesOnAs A.condition self.old self.new }
         ensures sends { SendsOn A.condition (O.taken out.old) (O.taken out.new)
             (O.failures out.old) (O.failures out.new) self.old self.new connection result }
+        ensures turn { self.new.last_turn ≡ self.old.last_turn }
     {
         let Some(i) = index_among(self.connections.as_slice(), connection) else {
             return SentOn::All;
@@ -409,6 +416,7 @@ impl<A: Archive> Hub<A> {
         ensures asked { Runs (Asked result) (A.call_log self.old.store)
             (A.call_log self.new.store) }
         ensures rests { RestsOn A.condition KeepsAll self.old self.new }
+        ensures turn { self.new.last_turn ≡ self.old.last_turn }
     {
         self.store.is_open()
     }
@@ -447,6 +455,7 @@ impl<A: Archive> Hub<A> {
             else behind_at self.old.connections.items m) }
         // So what a stop now leaves.
         ensures kept { LeavesStore A.condition self.old self.new }
+        ensures turn { self.new.last_turn ≡ self.old.last_turn }
     {
         if let Some(i) = index_among(self.connections.as_slice(), connection) {
             drop(self.connections.remove(i));

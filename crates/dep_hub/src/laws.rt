@@ -67,7 +67,7 @@ pub fn working_ahead_is_no_event<A: Archive>()
 
 /// While a request is kept back as it is prepared, each time of working ahead leaves fewer steps, of all that there are for
 /// the connections. A step more comes by a request alone that wasn't looked at before. And for each a step is made in its turn,
-/// before which fewer others come each time, and none that begins later. So each is answered in the end.
+/// which comes nearer each time, however many begin to be prepared later. So each is answered in the end.
 pub fn what_is_prepared_ends<A: Archive>()
     ensures fewer { (old new : AnyHub A) → AheadEnds A.condition old new }
     ensures turns { (old new : AnyHub A) → AheadTakesTurns A.condition old new }

@@ -63,8 +63,8 @@ fn is_waiting(behind: Behind) -> bool
 }
 
 /// The place of the one whose turn it is, of those whose next request is prepared, behind the turn of a number: of those
-/// below that the one with the greatest number, or where there is none the one with the greatest of all. Who comes later has
-/// a greater number, and so comes before nobody who waits. All numbers are below `next`.
+/// below that the one with the greatest number, or where there is none the one with the greatest of all. Who connects later has
+/// a greater number: its turn comes once before that of one who waits already, at most. All numbers are below `next`.
 pub(crate) fn next_prepared(connections: &[Connection], last: u64, next: u64) -> Option<usize>
     ensures { MatchOption result (HaveAtMost connections.now next 0)
         (HasTurn connections.now last next) }

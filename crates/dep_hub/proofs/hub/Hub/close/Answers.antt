@@ -32,6 +32,7 @@ returns-in-Some g c =
         store = refl;
         rests = leaves_as_before g.A.Archive.condition c.args.self.now _ refl (g.met.A.Archive.settled c.args.self.now.store);
       };
+      turn = refl;
     }
 
 -- there is no such connection
@@ -53,6 +54,7 @@ returns-in_default g c =
         store = refl;
         rests = leaves_as_before g.A.Archive.condition c.args.self.now _ refl (g.met.A.Archive.settled c.args.self.now.store);
       };
+      turn = refl;
     }
 
 pub invariant_of-self : goal.invariant_of-self

@@ -73,6 +73,7 @@ returns g c =
       config = refl;
       store = refl;
       next = (c.new-2.ensures, refl);
+      turn = refl;
       full = search rules;
       room = search rules;
       memory = λ e. cc;

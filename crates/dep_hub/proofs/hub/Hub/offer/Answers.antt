@@ -22,6 +22,7 @@ returns-in_default g c =
       there = λ there. absurd (none_there _ none there);
       offers = record { absent = none; same = same_hub c.args.self.now _ _ _; sends_nothing = Keeps-refl (g.O.Outlet.taken c.args.out.now) };
       behind = λ m. refl;
+      turn = refl;
     }
 
 -- the piece was taken
@@ -42,6 +43,7 @@ returns-in-Ok g c =
         same_failures = refl;
       };
       behind = behind_as_was c.args.connection c.in-Some.i c.args.self.now.connections.items c.index_mut-kept.result.now index c.index_mut-kept.ensures.value c.feed.new.self;
+      turn = refl;
     }
 
 -- memory ran out
@@ -63,6 +65,7 @@ returns-in-Err g c =
           (g.O.Outlet.failures c.args.out.now) (g.O.Outlet.failures c.give_up.new.out) (g.A.Archive.condition c.args.self.now.store) c.give_up.result e.1 c.give_up.ensures.sent c.give_up.ensures.cause)
           (there_sent c.give_up.ensures.sent.2) (c.give_up.ensures.shut ∙ ap shut_reading e.0);
       behind = behind_as_was c.args.connection c.in-Some.i c.args.self.now.connections.items c.index_mut-kept.result.now index c.index_mut-kept.ensures.value c.give_up.new.intake;
+      turn = refl;
     }
 
 pub invariant_of-self : goal.invariant_of-self

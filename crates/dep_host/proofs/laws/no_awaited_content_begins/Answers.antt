@@ -1,7 +1,7 @@
 use Rattle.dep_host.proofs.AwaitLemmas.{steps_begin_none}
 use Rattle.dep_host.proofs.HostLemmas.{steps_join}
 use Rattle.dep_host.proofs.OweLemmas.{keeps_promise}
-use Rattle.dep_host.proofs.laws.awaited_contents_end.Goals as goal
+use Rattle.dep_host.proofs.laws.no_awaited_content_begins.Goals as goal
 
 pub returns : goal.returns
 returns g c = λ p m q early late first before empty unowed h came waiting files waits clean number sends.
