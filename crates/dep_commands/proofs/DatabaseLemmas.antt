@@ -17,7 +17,7 @@ use Rattle.dep_store.specs.Migrating.{Keeps, OpenLeaves}
 use Rattle.dep_commands.specs.Starting.{IsGivenOrStore, IsStore, OpeningLeaves, RefusesConfig, outcome_of_start}
 use Rattle.dep_commands.specs.declared.starting.StartFault.{StartFault}
 use Rattle.dep_commands.specs.declared.starting.StartFault.TheVariants as fault
-use Rattle.dep_hub.specs.Records.{World, Record, Run, begins, stops, stopped, first_world}
+use Rattle.dep_exchange.specs.Records.{World, Record, Run, begins, stops, stopped, first_world}
 use Rattle.dep_hub.specs.Representing.{RepresentsAfter, IsClean, IsHonest}
 use Rattle.dep_hub.specs.declared.faults.HubFault.TheVariants as refused
 use Rattle.dep_hub.specs.declared.hub.Hub.{Hub}

@@ -11,7 +11,7 @@ use Rattle.dep_types.specs.Conditions.{Condition}
 use Rattle.dep_types.specs.State.{State, empty_state}
 use Rattle.dep_types.specs.Config.{IsChecked}
 use Rattle.dep_types.specs.declared.config.Config.{Config}
-use Rattle.dep_hub.specs.Records.{World, Record, Arrive, stopped, first_world, Run, begins, goes_on, stops, breaks}
+use Rattle.dep_exchange.specs.Records.{World, Record, Arrive, stopped, first_world, Run, begins, goes_on, stops, breaks}
 use Rattle.dep_hub.specs.Representing.{RepresentsAt, RepresentsAfter, IsHonest}
 use Rattle.dep_connection.specs.Turns.{Turn, with_opened, Exchanges}
 use Rattle.dep_connection.specs.Conversation.{Outflow, Wire, Session, Rests, Converses, ConversesOver}

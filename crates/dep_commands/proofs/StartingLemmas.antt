@@ -5,7 +5,7 @@ use Rattle.dep_types.specs.State.{State}
 use Rattle.dep_types.specs.declared.config.Config.{Config}
 use Rattle.dep_store.specs.Migrating.{OpenLeaves}
 use Rattle.dep_commands.specs.Starting.{OpeningLeaves}
-use Rattle.dep_hub.specs.Records.{Run, stops, stopped, first_world}
+use Rattle.dep_exchange.specs.Records.{Run, stops, stopped, first_world}
 
 pub opening_leaves : (config : Config) (old new : db.State) → OpenLeaves old new → OpeningLeaves config old new
 opening_leaves config old new leaves = record {

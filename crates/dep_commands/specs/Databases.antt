@@ -9,7 +9,7 @@ use Rattle.dep_types.specs.declared.config.Config.{Config}
 use Rattle.dep_schema.specs.OpenTables.{HoldsNone}
 use Rattle.dep_schema.specs.States.{Represents, IsLeftAs, Leaves}
 use Rattle.dep_store.specs.Migrating.{Keeps, OpenLeaves}
-use Rattle.dep_hub.specs.Records.{World, Record, Run, first_world, stopped}
+use Rattle.dep_exchange.specs.Records.{World, Record, Run, first_world, stopped}
 use Rattle.dep_connection.specs.Turns.{ArePieces}
 use Rattle.dep_program.specs.Serves.{Conversation, all_records_of, AreServed}
 use Rattle.dep_program.specs.declared.outcome.Outcome.{Outcome}

@@ -4,7 +4,7 @@ use Rattle.dep_types.specs.Conditions.{Condition}
 use Rattle.dep_store.specs.HashingStores as store
 use Rattle.dep_store.specs.declared.archive.HashingStore.{HashingStore}
 use Rattle.dep_reserve.specs.declared.reserved_archive.ReservedArchive.{ReservedArchive}
-use Rattle.dep_hub.specs.ArchiveCalls.{CallLog}
+use Rattle.dep_exchange.specs.ArchiveCalls.{CallLog}
 
 -- how a store with a reserve stands: as without one
 abbrev pub condition_of : {S R : Type 0} → (g : Ghosts S) → ReservedArchive (HashingStore S) R → Condition

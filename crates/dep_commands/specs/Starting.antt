@@ -11,7 +11,7 @@ use Rattle.dep_types.specs.declared.config.Config.{Config}
 use Rattle.dep_schema.specs.OpenTables.{HoldsNone}
 use Rattle.sqlite_trees.specs.declared.store.Store.{Ghosts}
 use Rattle.dep_schema.specs.States.{IsLeftAs, Represents, Leaves}
-use Rattle.dep_hub.specs.Records.{Record, Run, first_world, stopped}
+use Rattle.dep_exchange.specs.Records.{Record, Run, first_world, stopped}
 use Rattle.dep_hub.specs.Representing.{RepresentsAfter, IsHonest}
 use Rattle.dep_hub.specs.declared.hub.Hub.{Hub}
 use Rattle.dep_hub.specs.declared.faults.HubFault.TheVariants as refused

@@ -7,18 +7,18 @@ use Rattle.dep_types.specs.declared.config.Config.{Config}
 use Rattle.dep_types.specs.Conditions.{Condition, Leaves}
 use Rattle.dep_message.specs.Places.{Place, Open, Shut, Reading}
 use Rattle.dep_message.specs.Stream.{Item}
-use Rattle.dep_hub.specs.Machine.{answer_at_place, Fails, given_up, cut_short, Serves, serves_all, step_fails, gives_up}
-use Rattle.dep_hub.specs.Stops.{LeftByFailure, LeftByServing}
-use Rattle.dep_hub.specs.Records.{World, Line, with_line, Record, stopped, first_world, Run, goes_on, stops, Arrives, at_live, at_shut_line, LeftByArrival, arrives}
+use Rattle.dep_exchange.specs.Machine.{answer_at_place, Fails, given_up, cut_short, Serves, serves_all, step_fails, gives_up}
+use Rattle.dep_exchange.specs.Stops.{LeftByFailure, LeftByServing}
+use Rattle.dep_exchange.specs.Records.{World, Line, with_line, Record, stopped, first_world, Run, goes_on, stops, Arrives, at_live, at_shut_line, LeftByArrival, arrives}
 use Rattle.dep_hub.specs.Representing.{IsKeptAs, IsArrival, KeepsLines, RepresentsAt, IsClean, IsHonest, intake_of, store_of}
 use Rattle.dep_connection.specs.Turns.{Turn, record_of, last_answer, Exchanges, none_yet, one_more, LeftByExchanges}
 use Rattle.dep_connection.specs.Conversation.{Outflow, Talks, WorksAhead, silent, turn, ahead}
 use Rattle.dep_hub.specs.declared.hub.Hub.{Hub}
-use Rattle.dep_hub.specs.declared.arrived.Arrived.{Arrived}
-use Rattle.dep_hub.specs.declared.arrived.Arrived.TheVariants.{Open as StaysOpen, NoSuch}
-use Rattle.dep_hub.proofs.Leaving.{Settles, stays_as, leaves_wider, leaves_before}
+use Rattle.dep_exchange.specs.declared.arrived.Arrived.{Arrived}
+use Rattle.dep_exchange.specs.declared.arrived.Arrived.TheVariants.{Open as StaysOpen, NoSuch}
+use Rattle.dep_exchange.proofs.Leaving.{Settles, stays_as, leaves_wider, leaves_before}
 use Rattle.dep_hub.proofs.HubLemmas.{stopped_run}
-use Rattle.dep_hub.proofs.ShutLemmas.{there_sent}
+use Rattle.dep_exchange.proofs.ShutLemmas.{there_sent}
 
 pub map_more : (n : ℕ) (turns : List Turn) (t : Turn) → map (record_of n) (turns ++ t ∷ []) ≡ map (record_of n) turns ++ record_of n t ∷ []
 map_more n [] t = refl

@@ -1,10 +1,10 @@
 -- The turns of a connection over an archive that a fault shut.
 use Rattle.std.proofs.Common.{Bool, ◌≡◌, ℕ, List, [], ◌∷◌, ◌++◌, sym, subst}
 use Rattle.dep_types.specs.Conditions.{Condition}
-use Rattle.dep_hub.specs.Shut.{LeavesNoMore, IfShut, SendsFixed}
+use Rattle.dep_exchange.specs.Shut.{LeavesNoMore, IfShut, SendsFixed}
 use Rattle.dep_hub.specs.Representing.{IsClean, store_of}
 use Rattle.dep_hub.specs.declared.hub.Hub.{Hub}
-use Rattle.dep_hub.proofs.ShutLemmas.{leaves_same, leaves_both}
+use Rattle.dep_exchange.proofs.ShutLemmas.{leaves_same, leaves_both}
 use Rattle.dep_connection.specs.Turns.{Turn}
 use Rattle.dep_connection.specs.Conversation.{Outflow, AreFixed, Talks, silent, turn, ahead}
 

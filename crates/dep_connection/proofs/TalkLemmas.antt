@@ -7,12 +7,12 @@ use Rattle.dep_types.specs.declared.config.Config.{Config}
 use Rattle.dep_types.specs.Conditions.{Condition, HasCleanDisk, Leaves}
 use Rattle.dep_types.specs.Writing.{next_count}
 use Rattle.dep_types.specs.declared.inlet.LastRead.TheVariants.{Bytes}
-use Rattle.dep_hub.specs.Records.{World, Connect, Close, Record, stopped, first_world, Run, goes_on, Happens, connects, closes}
+use Rattle.dep_exchange.specs.Records.{World, Connect, Close, Record, stopped, first_world, Run, goes_on, Happens, connects, closes}
 use Rattle.dep_hub.specs.Representing.{RepresentsAt, RepresentsAfter, IsClean, IsHonest, Transition, GoesOnAs, intake_of, store_of}
 use Rattle.dep_hub.specs.declared.hub.Hub.{Hub}
-use Rattle.dep_hub.specs.declared.arrived.Arrived.{Arrived}
-use Rattle.dep_hub.specs.declared.arrived.Arrived.TheVariants.{Open as StaysOpen, Closed as HasClosed, Cut, NoSuch}
-use Rattle.dep_hub.proofs.Leaving.{Settles, leaves_wider}
+use Rattle.dep_exchange.specs.declared.arrived.Arrived.{Arrived}
+use Rattle.dep_exchange.specs.declared.arrived.Arrived.TheVariants.{Open as StaysOpen, Closed as HasClosed, Cut, NoSuch}
+use Rattle.dep_exchange.proofs.Leaving.{Settles, leaves_wider}
 use Rattle.dep_connection.proofs.ExchangeLemmas.{last_more, arrives_there, exchanges_run, exchanged_along, talks_exchange, talks_stop}
 use Rattle.dep_connection.proofs.ShutTurns.{conversation_shut}
 use Rattle.dep_connection.proofs.TurnLemmas.{goes_same, goes_then}

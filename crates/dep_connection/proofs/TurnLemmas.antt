@@ -11,12 +11,12 @@ use Rattle.dep_hub.specs.Numbers.{most_read}
 use Rattle.std.specs.Prelude.{IsSome}
 use Rattle.dep_hub.specs.Representing.{ArrivesOver, ComesTo, IsArrival, GoesOnAs, intake_of}
 use Rattle.dep_hub.proofs.HubLemmas.{none_there}
-use Rattle.dep_hub.specs.declared.arrived.Arrived.TheVariants.{Open as StaysOpen, Closed as HasClosed, Cut, NoSuch}
+use Rattle.dep_exchange.specs.declared.arrived.Arrived.TheVariants.{Open as StaysOpen, Closed as HasClosed, Cut, NoSuch}
 use Rattle.dep_hub.specs.WorkingAhead.{RestsAhead}
 use Rattle.dep_connection.specs.Conversation.{Outflow, Session, OneTurn, NoTurn}
 use Rattle.dep_connection.specs.Flushing.{IsFlushed}
 use Rattle.dep_hub.specs.declared.hub.Hub.{Hub}
-use Rattle.dep_hub.specs.declared.arrived.Arrived.{Arrived}
+use Rattle.dep_exchange.specs.declared.arrived.Arrived.{Arrived}
 
 -- the buffer has room
 pub has_room : (buffer given items : List ℕ) → length buffer ≡ length given → given ≡ items → length items ≡ most_read → length buffer ≡ most_read

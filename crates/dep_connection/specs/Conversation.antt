@@ -9,17 +9,17 @@ use Rattle.dep_types.specs.declared.inlet.Inlet as inlet
 use Rattle.dep_types.specs.declared.inlet.LastRead.{LastRead}
 use Rattle.dep_types.specs.declared.inlet.LastRead.TheVariants as read
 use Rattle.dep_types.specs.declared.outlet.Outlet as outlet
-use Rattle.dep_hub.specs.Records.{World, Connect, Close, Record, stopped, Run, first_world}
+use Rattle.dep_exchange.specs.Records.{World, Connect, Close, Record, stopped, Run, first_world}
 use Rattle.dep_hub.specs.Numbers.{most_read}
 use Rattle.dep_hub.specs.Representing.{RepresentsAt, RepresentsAfter, IsClean, IsHonest, Transition, IsArrival, GoesOnAs, intake_of, store_of}
 use Rattle.dep_connection.specs.Turns.{Turn, pieces_of, replies_of, record_of, records_of, most_reads, reads_made, reads_after, HasLastRead, ArePieces, last_answer, HasGoneOut, with_opened, with_closed, Exchanges, LeftByExchanges, EndsAs}
-use Rattle.dep_hub.specs.Archives.{KeepsEachState, CommitsIfDue}
-use Rattle.dep_hub.specs.Shut.{LeavesNoMore, IfShut, SendsFixed}
+use Rattle.dep_exchange.specs.Archives.{KeepsEachState, CommitsIfDue}
+use Rattle.dep_exchange.specs.Shut.{LeavesNoMore, IfShut, SendsFixed}
 use Rattle.dep_hub.specs.WorkingAhead.{MakesOneStep}
 use Rattle.dep_connection.specs.Flushing.{IsFlushed}
 use Rattle.dep_hub.specs.declared.hub.Hub.{Hub}
-use Rattle.dep_hub.specs.declared.arrived.Arrived.{Arrived}
-use Rattle.dep_hub.specs.declared.arrived.Arrived.TheVariants.{Open as StaysOpen, Closed as HasClosed, Cut}
+use Rattle.dep_exchange.specs.declared.arrived.Arrived.{Arrived}
+use Rattle.dep_exchange.specs.declared.arrived.Arrived.TheVariants.{Open as StaysOpen, Closed as HasClosed, Cut}
 use Rattle.dep_connection.specs.declared.connection.Served.{Served}
 use Rattle.dep_connection.specs.declared.connection.Served.TheVariants.{Ended, Closed, Unserved, ReadFault, WriteFault, Bound}
 

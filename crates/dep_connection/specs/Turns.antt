@@ -7,10 +7,10 @@ use Rattle.dep_types.specs.Writing.{next_count}
 use Rattle.dep_types.specs.declared.inlet.LastRead.{LastRead}
 use Rattle.dep_types.specs.declared.inlet.LastRead.TheVariants as read
 use Rattle.dep_types.specs.declared.config.Config.{Config}
-use Rattle.dep_hub.specs.Records.{World, Line, Live, Absent, with_line, Connect, Arrive, Close, Record, Arrives, LeftByArrival}
+use Rattle.dep_exchange.specs.Records.{World, Line, Live, Absent, with_line, Connect, Arrive, Close, Record, Arrives, LeftByArrival}
 use Rattle.dep_hub.specs.Numbers.{most_read}
-use Rattle.dep_hub.specs.declared.arrived.Arrived.{Arrived}
-use Rattle.dep_hub.specs.declared.arrived.Arrived.TheVariants.{Open as StaysOpen, Closed as HasClosed, Cut, NoSuch}
+use Rattle.dep_exchange.specs.declared.arrived.Arrived.{Arrived}
+use Rattle.dep_exchange.specs.declared.arrived.Arrived.TheVariants.{Open as StaysOpen, Closed as HasClosed, Cut, NoSuch}
 use Rattle.dep_connection.specs.declared.connection.Served.{Served}
 use Rattle.dep_connection.specs.declared.connection.Served.TheVariants.{Ended, Closed, Unserved, ReadFault, WriteFault, Bound}
 

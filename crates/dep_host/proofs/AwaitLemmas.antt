@@ -5,7 +5,7 @@ use Rattle.std.proofs.lemmas.Bool.{cases_eq, ne_eqb}
 use Rattle.dep_types.specs.Conditions.{Condition, HasCleanDisk}
 use Rattle.dep_hub.specs.Claims.{sends_of}
 use Rattle.dep_hub.specs.Holding.{RepresentsHolding}
-use Rattle.dep_hub.specs.Records.{World}
+use Rattle.dep_exchange.specs.Records.{World}
 use Rattle.dep_hub.specs.Representing.{IsClean}
 use Rattle.dep_hub.specs.RepresentsOwing.{behind_at}
 use Rattle.dep_hub.specs.WorkingAhead.{RestsAhead}

@@ -3,7 +3,7 @@ use Rattle.std.proofs.Common.{◌≡◌, ◌⊎◌, inl, inr, ℕ, List, [], ◌
 use Rattle.std.proofs.lemmas.List.{append-nil}
 use Rattle.dep_types.specs.Conditions.{Condition, HasCleanDisk}
 use Rattle.dep_types.specs.State.{State}
-use Rattle.dep_hub.specs.Records.{Record}
+use Rattle.dep_exchange.specs.Records.{Record}
 use Rattle.dep_hub.specs.Holding.{RepresentsHoldingAfter}
 use Rattle.dep_hub.specs.Representing.{IsClean, ServesAs}
 use Rattle.dep_hub.specs.declared.hub.Hub.{Hub}

@@ -16,10 +16,10 @@ use Rattle.dep_types.specs.State.{State}
 use Rattle.dep_types.specs.declared.config.Config.{Config}
 use Rattle.dep_types.specs.Conditions.{Represents}
 use Rattle.dep_hub.specs.declared.hub.Hub.{Hub}
-use Rattle.dep_hub.specs.Records.{Line, World}
+use Rattle.dep_exchange.specs.Records.{Line, World}
 use Rattle.dep_hub.specs.Representing.{IsClean, IsHonest, intake_of}
-use Rattle.dep_hub.specs.Shut.{ReportsOpen}
-use Rattle.dep_hub.specs.ArchiveCalls.{CallLog, Asked, Runs}
+use Rattle.dep_exchange.specs.Shut.{ReportsOpen}
+use Rattle.dep_exchange.specs.ArchiveCalls.{CallLog, Asked, Runs}
 use Rattle.dep_outbox.specs.declared.wire.Wire.{Wire}
 use Rattle.dep_outbox.specs.Wires.{reported}
 use Rattle.dep_slot.specs.ConnectionStates.{SendsStill, is_ended, closing as why}

@@ -9,7 +9,7 @@ use Rattle.std.proofs.lemmas.List.Elements.{Contains-append_right, Contains-push
 use Rattle.std.proofs.lemmas.List.{append-nil, length-append, set-get_or, get_or_past, get_or-set_same, get_or-set_other}
 use Rattle.std.proofs.lemmas.Grind.{flat_map-append}
 use Rattle.dep_types.specs.Conditions.{Condition}
-use Rattle.dep_hub.specs.ArchiveCalls.{CallLog}
+use Rattle.dep_exchange.specs.ArchiveCalls.{CallLog}
 use Rattle.dep_slot.specs.declared.slot.Slot.{Slot}
 use Rattle.dep_host.specs.declared.host.Host.{Host}
 use Rattle.dep_host.specs.declared.ending.Cause.{Cause}

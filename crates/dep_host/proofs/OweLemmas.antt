@@ -6,18 +6,19 @@ use Rattle.std.specs.Io.KnownBytes.{Appends, append_known}
 use Rattle.dep_types.specs.State.{State}
 use Rattle.dep_types.specs.declared.config.Config.{Config}
 use Rattle.dep_types.specs.Conditions.{Condition, Represents, HasCleanDisk}
-use Rattle.dep_hub.specs.Machine.{serves_all, step_fails, gives_up}
-use Rattle.dep_hub.specs.Records.{Record, Connect, Arrive, Close, Line, Live, Absent, Arrives, at_live, at_shut_line, Run, goes_on as runs_on, connects, closes as closes_line, arrives, with_line}
+use Rattle.dep_exchange.specs.Machine.{serves_all, step_fails, gives_up}
+use Rattle.dep_exchange.specs.Records.{Record, Connect, Arrive, Close, Line, Live, Absent, Arrives, at_live, at_shut_line, Run, goes_on as runs_on, connects, closes as closes_line, arrives, with_line}
 use Rattle.dep_hub.specs.Representing.{IsClean, IsHonest}
 use Rattle.dep_hub.specs.Holding.{KeepsHolding, RepresentsHoldingAfter, PartArrives, IsNext, items_answered, with_held}
-use Rattle.dep_hub.specs.Owing.{IsOwed, bytes_later, with_more}
+use Rattle.dep_exchange.specs.Owing.{with_more}
+use Rattle.dep_hub.specs.Owed.{IsOwed, bytes_later}
 use Rattle.dep_hub.specs.RepresentsOwing.{KeepsBack, unsent, prepares_still, begins_to_prepare, waits_still, begins_to_wait, lacks_memory, RepresentsOwingAfter, NextIsFree, OthersStay, Owes, IsPaid, behind_at, is_part, is_unsent}
 use Rattle.dep_hub.specs.WorkingAhead.{RestsAhead}
 use Rattle.dep_hub.proofs.PreparingLemmas.{ahead_owes}
-use Rattle.dep_hub.specs.declared.arrived.Arrived.{Arrived}
+use Rattle.dep_exchange.specs.declared.arrived.Arrived.{Arrived}
 use Rattle.dep_hub.specs.declared.hub.Hub.{Hub}
-use Rattle.dep_hub.specs.declared.next.Next.{Next}
-use Rattle.dep_hub.specs.declared.next.Next.TheVariants.{More, Waiting, Closed, Cut, NoSuch}
+use Rattle.dep_exchange.specs.declared.next.Next.{Next}
+use Rattle.dep_exchange.specs.declared.next.Next.TheVariants.{More, Waiting, Closed, Cut, NoSuch}
 use Rattle.dep_hub.specs.declared.rest.Behind.{Behind}
 use Rattle.dep_hub.specs.declared.sent_on.SentOn.{SentOn}
 use Rattle.dep_hub.specs.declared.sent_on.SentOn.TheVariants.{Part, All, Broken as BrokenOff}

@@ -4,12 +4,12 @@ use Rattle.std.proofs.lemmas.List.{append-nil}
 use Rattle.dep_types.specs.State.{State}
 use Rattle.dep_types.specs.declared.config.Config.{Config}
 use Rattle.dep_types.specs.Conditions.{Condition, Represents, HasCleanDisk}
-use Rattle.dep_hub.specs.Records.{Record, Connect, Arrive, Close, Line, Live, Absent, Run}
+use Rattle.dep_exchange.specs.Records.{Record, Connect, Arrive, Close, Line, Live, Absent, Run}
 use Rattle.dep_hub.specs.Representing.{IsClean, intake_of}
 use Rattle.dep_hub.specs.Holding.{KeepsHolding, RepresentsHoldingAfter, LineTransition, PartArrives, IsHeldAs, with_held}
 use Rattle.dep_hub.specs.RepresentsOwing.{KeepsBack}
 use Rattle.dep_hub.specs.declared.hub.Hub.{Hub}
-use Rattle.dep_hub.specs.declared.arrived.Arrived.{Arrived}
+use Rattle.dep_exchange.specs.declared.arrived.Arrived.{Arrived}
 use Rattle.dep_host.proofs.CloseLemmas.{clean_before}
 use Rattle.dep_host.specs.Hosting.{Position, HostAction, Step, refused, asks, comes, rests, offers, delays, sends, refuses, answers, leaves, StandsStill, Steps, begins, goes_on}
 use Rattle.dep_host.specs.Runs.{Follows, begins as follows_none, opens, takes, replies, sends as follows_sent, declines, closes, RepresentsBehind}

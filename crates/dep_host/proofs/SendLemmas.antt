@@ -7,8 +7,8 @@ use Rattle.dep_hub.specs.RepresentsOwing.{KeepsBack, unsent, prepares_still, beg
 use Rattle.dep_hub.specs.WorkingAhead.{RestsAhead}
 use Rattle.dep_hub.proofs.PreparingLemmas.{ahead_contents}
 use Rattle.dep_hub.specs.declared.hub.Hub.{Hub}
-use Rattle.dep_hub.specs.declared.next.Next.{Next}
-use Rattle.dep_hub.specs.declared.next.Next.TheVariants.{More, Waiting, Closed, Cut, NoSuch}
+use Rattle.dep_exchange.specs.declared.next.Next.{Next}
+use Rattle.dep_exchange.specs.declared.next.Next.TheVariants.{More, Waiting, Closed, Cut, NoSuch}
 use Rattle.dep_hub.specs.declared.rest.Behind.{Behind}
 use Rattle.dep_hub.specs.declared.rest.Behind.TheVariants.{Nothing, Content, Broken, Waits, Prepares, Prepared}
 use Rattle.dep_hub.specs.declared.sent_on.SentOn.{SentOn}

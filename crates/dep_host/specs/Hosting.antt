@@ -3,7 +3,7 @@ use Rattle.std.specs.Prelude.{◌≡◌, ◌⊎◌, ◌<◌, ◌≤◌, ◌+◌,
 use Rattle.std.specs.List.{flat_map}
 use Rattle.std.specs.Io.KnownBytes.{IsAtEnd}
 use Rattle.dep_types.specs.Conditions.{Condition}
-use Rattle.dep_hub.specs.Records.{Line, Live, Absent, World}
+use Rattle.dep_exchange.specs.Records.{Line, Live, Absent, World}
 use Rattle.dep_hub.specs.Representing.{IsClean}
 use Rattle.dep_hub.specs.Holding.{KeepsHolding, LineTransition, RepresentsHolding, with_held}
 use Rattle.dep_hub.specs.RepresentsOwing.{KeepsBack, behind_at, is_awaited_at}

@@ -2,7 +2,7 @@
 use Rattle.std.specs.Prelude.{◌≡◌, ◌⊎◌, ◌<◌, ◌≤◌, true, false, ◌+◌, length, ◌++◌, ℕ, List, [], Option, Some}
 use Rattle.dep_types.specs.State.{State}
 use Rattle.dep_types.specs.Conditions.{Condition}
-use Rattle.dep_hub.specs.Records.{Record}
+use Rattle.dep_exchange.specs.Records.{Record}
 use Rattle.dep_hub.specs.Representing.{IsClean}
 use Rattle.dep_hub.specs.Holding.{RepresentsHoldingAfter}
 use Rattle.dep_hub.specs.Claims.{is_content, sends_of}

@@ -7,8 +7,8 @@ use Rattle.std.specs.declared.result.Result.TheVariants as result
 use Rattle.dep_types.specs.Conditions.{Condition, HasCleanDisk}
 use Rattle.dep_types.specs.declared.store_fault.StoreFault.{StoreFault}
 use Rattle.dep_types.specs.Writing.{HasRisen}
-use Rattle.dep_hub.specs.Shut.{ReportsOpen}
-use Rattle.dep_hub.specs.ArchiveCalls.{CallLog, Asked, WorkedAhead, Runs, FailsToReport}
+use Rattle.dep_exchange.specs.Shut.{ReportsOpen}
+use Rattle.dep_exchange.specs.ArchiveCalls.{CallLog, Asked, WorkedAhead, Runs, FailsToReport}
 use Rattle.dep_hub.specs.WorkingAhead.{RestsAhead}
 use Rattle.dep_hub.specs.Numbers.{most_connections, last_number}
 use Rattle.dep_hub.specs.declared.hub.Hub.{Hub}

@@ -4,10 +4,10 @@ use Rattle.std.specs.List.{flat_map}
 use Rattle.std.specs.Io.KnownBytes.{append_known}
 use Rattle.dep_types.specs.State.{State}
 use Rattle.dep_types.specs.Conditions.{Condition}
-use Rattle.dep_hub.specs.Records.{Event, Record, Connect, Arrive, Close, Stop}
+use Rattle.dep_exchange.specs.Records.{Event, Record, Connect, Arrive, Close, Stop}
 use Rattle.dep_hub.specs.Representing.{IsClean}
 use Rattle.dep_hub.specs.Holding.{RepresentsHoldingAfter, with_held}
-use Rattle.dep_hub.specs.Owing.{IsOwed}
+use Rattle.dep_hub.specs.Owed.{IsOwed}
 use Rattle.dep_hub.specs.RepresentsOwing.{behind_at, is_part}
 use Rattle.dep_hub.specs.declared.rest.Behind.TheVariants.{Nothing}
 use Rattle.dep_hub.specs.declared.sent_on.SentOn.{SentOn}

@@ -40,7 +40,7 @@ impl<A: Archive, R: Source + Drop, K: Sink + Drop, S: Spool + Drop> Host<A, R, K
     ghost use Rattle.std.specs.Prelude.{◌⊎◌, ◌<◌, List, [], ◌∷◌, nat_lt, IfErr, IfSome, is_some, IsSome, IsNone, true, false};
     ghost use Rattle.std.specs.Io.KnownBytes.{IsAtEnd};
     ghost use Rattle.dep_outbox.specs.Wires.{reported};
-    ghost use Rattle.dep_hub.specs.ArchiveCalls.{WorkedAhead, Runs};
+    ghost use Rattle.dep_exchange.specs.ArchiveCalls.{WorkedAhead, Runs};
     ghost use Rattle.dep_hub.specs.WorkingAhead.{RestsAhead};
     ghost use Rattle.dep_host.specs.Hosting.{HostAction, Steps, Serves, Closed, GoesRound, EvictsLargest, Stays, HasTime, MayGo, IsEmpty, IsReadAt, farewell, IsVacant, IsWaiting, position, slot_at, unfinished_of, unfinished_in};
     ghost use Rattle.dep_host.specs.Coming.{origin, slots_from};

@@ -11,21 +11,22 @@ use Rattle.dep_types.specs.State.{State, File, file_at}
 use Rattle.dep_types.specs.declared.config.Config.{Config}
 use Rattle.dep_types.specs.Conditions.{Condition, Represents, HasCleanDisk, Leaves}
 use Rattle.dep_message.specs.Places.{Reading}
-use Rattle.dep_hub.specs.Records.{Line}
-use Rattle.dep_hub.specs.Shut.{LeavesNoMore, IfShut}
+use Rattle.dep_exchange.specs.Records.{Line}
+use Rattle.dep_exchange.specs.Shut.{LeavesNoMore, IfShut}
 use Rattle.dep_hub.specs.Representing.{intake_of, store_of, IsClean, IsHonest}
 use Rattle.dep_hub.specs.Holding.{IsHeldAs, KeepsHolding, with_held}
 use Rattle.dep_answers.specs.declared.performed.StoredFile.{StoredFile}
 use Rattle.std.specs.List.{remove}
 use Rattle.dep_hub.specs.Numbers.{index_of, Ascends}
-use Rattle.dep_hub.specs.Owing.{HasBehind, IsPrefixBehind, IsLater, IsOwed, later_than, bytes_later, TakesFew}
+use Rattle.dep_exchange.specs.Owing.{HasBehind, IsPrefixBehind, IsLater, TakesFew}
+use Rattle.dep_hub.specs.Owed.{IsOwed, later_than, bytes_later}
 use Rattle.dep_hub.specs.RepresentsOwing.{IsPaid, OthersStay, SendsOn, behind_at, is_part}
-use Rattle.dep_hub.specs.declared.next.Next.{Next}
-use Rattle.dep_hub.specs.declared.next.Next.TheVariants.{NoSuch}
+use Rattle.dep_exchange.specs.declared.next.Next.{Next}
+use Rattle.dep_exchange.specs.declared.next.Next.TheVariants.{NoSuch}
 use Rattle.dep_hub.specs.declared.sent_on.SentOn.{SentOn}
 use Rattle.dep_hub.specs.declared.sent_on.SentOn.TheVariants.{Part, All, Broken as BrokenOff}
 use Rattle.dep_hub.specs.Claims.{is_content, sends_of}
-use Rattle.dep_hub.specs.declared.rest.Rest.{Rest}
+use Rattle.dep_exchange.specs.declared.rest.Rest.{Rest}
 use Rattle.dep_hub.specs.declared.claim.Files.{Files}
 use Rattle.dep_hub.specs.declared.hub.Hub.{Hub}
 use Rattle.dep_hub.specs.declared.connections.Connection.{Connection}
@@ -33,8 +34,8 @@ use Rattle.dep_hub.specs.declared.rest.Behind.{Behind}
 use Rattle.dep_hub.specs.declared.claim.Claim.{Claim}
 use Rattle.dep_hub.specs.declared.rest.Behind.TheVariants.{Nothing, Content, Broken, Waits, Prepares, Prepared}
 use Rattle.dep_hub.proofs.ConnectionLemmas.{index_some, intake_set}
-use Rattle.dep_hub.proofs.Leaving.{Settles}
-use Rattle.dep_hub.proofs.OwingLemmas.{few_none}
+use Rattle.dep_exchange.proofs.Leaving.{Settles}
+use Rattle.dep_exchange.proofs.OwingLemmas.{few_none}
 
 some_not_none : (o : Option ℕ) → option_map suc o ≡ None → o ≡ None
 some_not_none None e = refl

@@ -8,15 +8,15 @@ use Rattle.dep_types.specs.declared.config.Config.{Config}
 use Rattle.dep_types.specs.Conditions.{Represents, HasCleanDisk, Leaves}
 use Rattle.dep_message.specs.Places.{Place, Open, Shut, Reading, IsOpen, HasBytes, place_with}
 use Rattle.dep_message.specs.Stream.{Item, FirstAt, Waits}
-use Rattle.dep_hub.specs.Records.{Line, Absent, Live, ShutLine, ReadsBeyond, Arrives, LeftByArrival}
-use Rattle.dep_hub.specs.Causes.{IsCutWhileStreaming}
-use Rattle.dep_hub.specs.Sending.{Outside}
-use Rattle.dep_hub.specs.Serving.{IsDeadIfShut}
-use Rattle.dep_hub.specs.Shut.{LeavesNoMore, IfShut, SendsFixed}
+use Rattle.dep_exchange.specs.Records.{Line, Absent, Live, ShutLine, ReadsBeyond, Arrives, LeftByArrival}
+use Rattle.dep_exchange.specs.Causes.{IsCutWhileStreaming}
+use Rattle.dep_exchange.specs.Sending.{Outside}
+use Rattle.dep_exchange.specs.Serving.{IsDeadIfShut}
+use Rattle.dep_exchange.specs.Shut.{LeavesNoMore, IfShut, SendsFixed}
 use Rattle.dep_hub.specs.Representing.{IsKeptAs}
 use Rattle.dep_hub.specs.Holding.{fed, IsHeldAs, Outcome, ArrivesAs, items_answered}
-use Rattle.dep_hub.specs.declared.arrived.Arrived.{Arrived}
-use Rattle.dep_hub.specs.declared.arrived.Arrived.TheVariants as came
+use Rattle.dep_exchange.specs.declared.arrived.Arrived.{Arrived}
+use Rattle.dep_exchange.specs.declared.arrived.Arrived.TheVariants as came
 use Rattle.dep_hub.proofs.HubLemmas.{beyond, open_shut}
 use Rattle.dep_hub.proofs.Endings.{ending, place_nothing}
 

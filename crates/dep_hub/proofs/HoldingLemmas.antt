@@ -5,27 +5,27 @@ use Rattle.dep_types.specs.State.{State}
 use Rattle.dep_types.specs.declared.config.Config.{Config}
 use Rattle.dep_types.specs.Conditions.{Condition, Represents, Leaves}
 use Rattle.dep_message.specs.Places.{Open, Reading, shut_reading, place_with}
-use Rattle.dep_hub.specs.Machine.{out_of_memory}
-use Rattle.dep_hub.specs.Records.{Connect, Close, Arrive, Record, stopped, first_world, connects, closes, arrives, Run, goes_on, stops, Line, Absent, Live, World, with_line}
-use Rattle.dep_hub.specs.Sending.{Outside, outside}
-use Rattle.dep_hub.specs.Serving.{IsDeadIfShut}
-use Rattle.dep_hub.specs.Nexts.{RunsOut, AnswersNext}
+use Rattle.dep_exchange.specs.Machine.{out_of_memory}
+use Rattle.dep_exchange.specs.Records.{Connect, Close, Arrive, Record, stopped, first_world, connects, closes, arrives, Run, goes_on, stops, Line, Absent, Live, World, with_line}
+use Rattle.dep_exchange.specs.Sending.{Outside, outside}
+use Rattle.dep_exchange.specs.Serving.{IsDeadIfShut}
+use Rattle.dep_exchange.specs.Nexts.{RunsOut, AnswersNext}
 use Rattle.dep_hub.specs.Representing.{intake_of, IsKeptAs, RepresentsAt, store_of, IsClean}
-use Rattle.dep_hub.specs.Archives.{KeepsAll}
+use Rattle.dep_exchange.specs.Archives.{KeepsAll}
 use Rattle.dep_hub.specs.Holding.{RestsOn, RepresentsOn, with_held, fed, IsHeldAs, Outcome, arrived_by, IsNext, IsRefused, KeepsHolding, RepresentsHolding, RepresentsHoldingAfter, LineTransition, PartArrives, AnswersOver, ComesToNext, OffersTo}
 use Rattle.dep_hub.specs.Numbers.{index_of, Ascends}
-use Rattle.dep_hub.specs.declared.arrived.Arrived.{Arrived}
-use Rattle.dep_hub.specs.declared.arrived.Arrived.TheVariants as came
-use Rattle.dep_hub.specs.declared.next.Next.{Next}
-use Rattle.dep_hub.specs.declared.next.Next.TheVariants.{More, Waiting, Closed, Cut, NoSuch}
+use Rattle.dep_exchange.specs.declared.arrived.Arrived.{Arrived}
+use Rattle.dep_exchange.specs.declared.arrived.Arrived.TheVariants as came
+use Rattle.dep_exchange.specs.declared.next.Next.{Next}
+use Rattle.dep_exchange.specs.declared.next.Next.TheVariants.{More, Waiting, Closed, Cut, NoSuch}
 use Rattle.dep_hub.specs.declared.connections.Connection.{Connection}
 use Rattle.dep_hub.specs.declared.rest.Behind.{Behind}
 use Rattle.dep_hub.specs.declared.rest.Behind.TheVariants.{Nothing}
 use Rattle.dep_hub.specs.declared.hub.Hub.{Hub}
-use Rattle.dep_hub.proofs.Leaving.{Settles, stays_as, leaves_wider, leaves_before}
+use Rattle.dep_exchange.proofs.Leaving.{Settles, stays_as, leaves_wider, leaves_before}
 use Rattle.dep_hub.proofs.ConnectionLemmas.{index_some, intake_set, intake_push, absent_above}
 use Rattle.dep_hub.proofs.HubLemmas.{kept_fresh, stopped_run}
-use Rattle.dep_hub.proofs.ShutLemmas.{ends_sent}
+use Rattle.dep_exchange.proofs.ShutLemmas.{ends_sent}
 use Rattle.dep_hub.proofs.HeldLemmas.{Keeps, NextOver}
 use Rattle.dep_hub.proofs.PartLemmas.{over_next, over_out}
 use Rattle.dep_hub.proofs.Endings.{place_nothing, place_twice}

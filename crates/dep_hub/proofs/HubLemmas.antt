@@ -11,23 +11,23 @@ use Rattle.dep_message.specs.Places.{Place, Open, Shut, Reading, IsOpen, HasByte
 use Rattle.dep_message.specs.Stream.{Item, Reads, Waits}
 use Rattle.dep_message.proofs.Reading.{reads_more, reads_append}
 use Rattle.dep_types.specs.Conditions.{Condition, Represents, Leaves}
-use Rattle.dep_hub.specs.Machine.{Serves, serves_all, step_fails, gives_up, given_up, cut_short, answer_at_place}
-use Rattle.dep_hub.specs.Stops.{LeftByServing}
-use Rattle.dep_hub.specs.Records.{Event, Connect, Arrive, Close, Record, stopped, Line, Absent, Live, ShutLine, World, first_world, with_line, line_after, ReadsBeyond, Arrives, at_live, at_shut_line, LeftByArrival, MayShut, connects, closes, arrives, Run, goes_on, stops, breaks}
-use Rattle.dep_hub.specs.Causes.{EndsInContent, IsCutWhileStreaming}
-use Rattle.dep_hub.specs.Sending.{Outside, outside}
-use Rattle.dep_hub.specs.Serving.{IsDeadIfShut, arrival_of, ServesFrom, ServesOver}
+use Rattle.dep_exchange.specs.Machine.{Serves, serves_all, step_fails, gives_up, given_up, cut_short, answer_at_place}
+use Rattle.dep_exchange.specs.Stops.{LeftByServing}
+use Rattle.dep_exchange.specs.Records.{Event, Connect, Arrive, Close, Record, stopped, Line, Absent, Live, ShutLine, World, first_world, with_line, line_after, ReadsBeyond, Arrives, at_live, at_shut_line, LeftByArrival, MayShut, connects, closes, arrives, Run, goes_on, stops, breaks}
+use Rattle.dep_exchange.specs.Causes.{EndsInContent, IsCutWhileStreaming}
+use Rattle.dep_exchange.specs.Sending.{Outside, outside}
+use Rattle.dep_exchange.specs.Serving.{IsDeadIfShut, arrival_of, ServesFrom, ServesOver}
 use Rattle.dep_hub.specs.Representing.{intake_of, KeepsRest, IsKeptAs, RepresentsAt, RepresentsAfter, StopsAfter, Adds, Transition, ArrivesTo, ArrivesShut, ArrivesOver, ComesTo, store_of, IsClean, IsHonest}
-use Rattle.dep_hub.specs.Shut.{IfShut}
+use Rattle.dep_exchange.specs.Shut.{IfShut}
 use Rattle.dep_hub.specs.Claims.{is_any_pending, is_any_waiting}
 use Rattle.dep_hub.specs.Numbers.{index_of, Ascends, Ascends-prop}
-use Rattle.dep_hub.specs.declared.arrived.Arrived.{Arrived}
-use Rattle.dep_hub.specs.declared.arrived.Arrived.TheVariants.{Open as StaysOpen, Closed, Cut, NoSuch}
+use Rattle.dep_exchange.specs.declared.arrived.Arrived.{Arrived}
+use Rattle.dep_exchange.specs.declared.arrived.Arrived.TheVariants.{Open as StaysOpen, Closed, Cut, NoSuch}
 use Rattle.dep_hub.specs.declared.connections.Connection.{Connection}
 use Rattle.dep_hub.specs.declared.rest.Behind.{Behind}
 use Rattle.dep_hub.specs.declared.rest.Behind.TheVariants as behind
 use Rattle.dep_hub.specs.declared.hub.Hub.{Hub}
-use Rattle.dep_hub.proofs.Leaving.{Settles, stays_as, leaves_wider}
+use Rattle.dep_exchange.proofs.Leaving.{Settles, stays_as, leaves_wider}
 use Rattle.dep_hub.proofs.ConnectionLemmas.{index_some, intake_set, intake_push}
 
 kept_if : (limit : ℕ) (b : Bool) (line line' : Line) (o o' : Option Reading) → IsKeptAs limit line o → IsKeptAs limit line' o'

@@ -23,18 +23,18 @@ use Rattle.dep_message.specs.declared.message.Message.{Message}
 use Rattle.dep_router.specs.Targets.{target}
 use Rattle.dep_router.specs.declared.routed.Routed.{Routed}
 use Rattle.dep_router.specs.declared.routed.Routed.TheVariants.{To, NotFound, NotAllowed}
-use Rattle.dep_hub.specs.Machine.{operation_of, routed_step, step, starting_state, state_after, Fails, given_up, cut_short, Serves, serves_all, step_fails, gives_up}
-use Rattle.dep_hub.specs.Records.{Line, Arrives, ReadsBeyond, at_live, at_shut_line, Arrive, Run, goes_on, arrives, with_line}
+use Rattle.dep_exchange.specs.Machine.{operation_of, routed_step, step, starting_state, state_after, Fails, given_up, cut_short, Serves, serves_all, step_fails, gives_up}
+use Rattle.dep_exchange.specs.Records.{Line, Arrives, ReadsBeyond, at_live, at_shut_line, Arrive, Run, goes_on, arrives, with_line}
 use Rattle.dep_hub.specs.Representing.{intake_of, store_of}
 use Rattle.dep_hub.specs.Holding.{IsHeldAs, items_served, items_answered}
-use Rattle.dep_hub.specs.Owing.{IsOwed}
+use Rattle.dep_hub.specs.Owed.{IsOwed}
 use Rattle.dep_hub.specs.RepresentsOwing.{RepliesKeep, behind_at, RepliesAdd, SendingRepresents}
 use Rattle.dep_hub.specs.declared.connections.Connection.{Connection}
 use Rattle.dep_hub.proofs.BehindLemmas.{or_parts}
 use Rattle.dep_hub.proofs.Endings.{place_twice}
-use Rattle.dep_hub.specs.declared.arrived.Arrived.{Arrived}
+use Rattle.dep_exchange.specs.declared.arrived.Arrived.{Arrived}
 use Rattle.dep_hub.specs.declared.rest.Behind.{Behind}
-use Rattle.dep_hub.specs.declared.rest.Rest.{Rest}
+use Rattle.dep_exchange.specs.declared.rest.Rest.{Rest}
 use Rattle.dep_hub.specs.declared.rest.Behind.TheVariants.{Nothing, Content, Broken, Waits, Prepares, Prepared}
 use Rattle.dep_hub.specs.declared.claim.Claim.{Claim}
 use Rattle.dep_hub.specs.declared.claim.Claim.TheVariants.{Takes, Reads as ReadsFile, Neither}

@@ -8,25 +8,25 @@ use Rattle.dep_types.specs.Conditions.{Represents, HasCleanDisk, Leaves}
 use Rattle.dep_answers.specs.Steps.{sent_by}
 use Rattle.dep_message.specs.Places.{Place, Shut, Reading, HasBytes, place_with}
 use Rattle.dep_message.specs.Stream.{Item, FirstAt}
-use Rattle.dep_hub.specs.Machine.{step, replies, state_after, serves_all, step_fails, gives_up}
-use Rattle.dep_hub.specs.Records.{Line, Absent, Live, ShutLine, ReadsBeyond, Arrives, at_live, at_shut_line, LeftByArrival}
-use Rattle.dep_hub.specs.Causes.{IsCutWhileStreaming}
-use Rattle.dep_hub.specs.Sending.{Outside}
-use Rattle.dep_hub.specs.Serving.{Answers, FailsFrom, IsAnsweredShut, IsDeadIfShut, IsStill, OnlyContinues, answer_after}
-use Rattle.dep_hub.specs.Shut.{waits, has_ended}
-use Rattle.dep_hub.specs.Shut as fixed
-use Rattle.dep_hub.specs.Nexts.{RunsOut, IsLast, IsDead, GoesOn, IsWaiting, AnswersNext}
+use Rattle.dep_exchange.specs.Machine.{step, replies, state_after, serves_all, step_fails, gives_up}
+use Rattle.dep_exchange.specs.Records.{Line, Absent, Live, ShutLine, ReadsBeyond, Arrives, at_live, at_shut_line, LeftByArrival}
+use Rattle.dep_exchange.specs.Causes.{IsCutWhileStreaming}
+use Rattle.dep_exchange.specs.Sending.{Outside}
+use Rattle.dep_exchange.specs.Serving.{Answers, FailsFrom, IsAnsweredShut, IsDeadIfShut, IsStill, OnlyContinues, answer_after}
+use Rattle.dep_exchange.specs.Shut.{waits, has_ended}
+use Rattle.dep_exchange.specs.Shut as fixed
+use Rattle.dep_exchange.specs.Nexts.{RunsOut, IsLast, IsDead, GoesOn, IsWaiting, AnswersNext}
 use Rattle.dep_hub.specs.Representing.{IsShut}
 use Rattle.dep_hub.specs.Holding.{Outcome, ArrivesAs, items_answered, arrived_by, IsNext}
-use Rattle.dep_hub.specs.declared.arrived.Arrived.{Arrived}
-use Rattle.dep_hub.specs.declared.arrived.Arrived.TheVariants as came
-use Rattle.dep_hub.specs.declared.next.Next.{Next}
-use Rattle.dep_hub.specs.declared.next.Next.TheVariants.{More, Waiting, Closed, Cut, NoSuch}
-use Rattle.dep_hub.specs.declared.sending.Answered.{Answered}
-use Rattle.dep_hub.specs.declared.sending.Answered.TheVariants.{Sent, GaveUp, CutShort}
-use Rattle.dep_hub.proofs.Leaving.{Settles, stays_as}
-use Rattle.dep_hub.proofs.ShutLemmas.{continues_more, ends_fixed, sends_behind, sends_no_more}
-use Rattle.dep_hub.proofs.ServingLemmas.{still_more, fails_still}
+use Rattle.dep_exchange.specs.declared.arrived.Arrived.{Arrived}
+use Rattle.dep_exchange.specs.declared.arrived.Arrived.TheVariants as came
+use Rattle.dep_exchange.specs.declared.next.Next.{Next}
+use Rattle.dep_exchange.specs.declared.next.Next.TheVariants.{More, Waiting, Closed, Cut, NoSuch}
+use Rattle.dep_exchange.specs.declared.sending.Answered.{Answered}
+use Rattle.dep_exchange.specs.declared.sending.Answered.TheVariants.{Sent, GaveUp, CutShort}
+use Rattle.dep_exchange.proofs.Leaving.{Settles, stays_as}
+use Rattle.dep_exchange.proofs.ShutLemmas.{continues_more, ends_fixed, sends_behind, sends_no_more}
+use Rattle.dep_exchange.proofs.ServingLemmas.{still_more, fails_still}
 use Rattle.dep_hub.proofs.HubLemmas.{beyond, open_shut}
 use Rattle.dep_hub.proofs.HeldLemmas.{no_bytes, closed_cut, none_of_one, one_of_one, NextPart, StillPart, Keeps, NextOver, keeps_limit, ended_limit, keeps_place, ended_place, live_open, ended_dead, keeps_dead, first_of, no_first, Reaches, reaches_next, reaches_none}
 use Rattle.dep_hub.proofs.Endings.{place_nothing}

@@ -10,7 +10,7 @@ use Rattle.dep_message.specs.Places.{Reading}
 use Rattle.dep_hub.specs.Numbers.{Ascends}
 use Rattle.dep_hub.specs.Representing.{intake_of}
 use Rattle.dep_hub.specs.Holding.{IsHeldAs}
-use Rattle.dep_hub.specs.Owing.{IsOwed, later_than}
+use Rattle.dep_hub.specs.Owed.{IsOwed, later_than}
 use Rattle.dep_hub.specs.Claims.{any_waits_to_take, has_to_wait, is_any_pending, is_any_waiting, is_awaited_by, is_content, is_in_the_way, is_pending, is_waiting, sends_of, waits_to_take}
 use Rattle.dep_hub.specs.RepresentsOwing.{behind_at, is_looked_at, is_unsent, KeptBack, unsent, prepares_still, begins_to_prepare, waits_still, begins_to_wait, lacks_memory, AnswersAtOnce, AwaitsContent, AwaitsTaker, ContentsStay, WaitingRepresents}
 use Rattle.dep_hub.specs.Preparing.{is_preparing, most_steps}
@@ -19,7 +19,7 @@ use Rattle.dep_hub.specs.declared.claim.Claim.TheVariants.{Takes, Reads, Neither
 use Rattle.dep_hub.specs.declared.claim.Files.{Files}
 use Rattle.dep_hub.specs.declared.connections.Connection.{Connection}
 use Rattle.dep_hub.specs.declared.hub.Hub.{Hub}
-use Rattle.dep_hub.specs.declared.rest.Rest.{Rest}
+use Rattle.dep_exchange.specs.declared.rest.Rest.{Rest}
 use Rattle.dep_hub.specs.declared.rest.Behind.{Behind}
 use Rattle.dep_hub.specs.declared.rest.Behind.TheVariants.{Nothing, Content, Broken, Waits, Prepares, Prepared}
 use Rattle.dep_hub.proofs.BehindLemmas.{either_false, or_parts}

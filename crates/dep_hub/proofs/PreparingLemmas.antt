@@ -12,13 +12,13 @@ use Rattle.dep_message.specs.Stream.{Request, FirstAt}
 use Rattle.dep_message.specs.Working.{IsBegun}
 use Rattle.dep_message.specs.declared.message.Message.{Message}
 use Rattle.dep_message.proofs.Bodies.{begins_with_head}
-use Rattle.dep_hub.specs.Archives.{KeepsEachState}
+use Rattle.dep_exchange.specs.Archives.{KeepsEachState}
 use Rattle.dep_hub.specs.Claims.{is_content, is_pending, is_waiting, sends_of}
 use Rattle.dep_hub.specs.Holding.{IsHeldAs}
 use Rattle.dep_hub.specs.Numbers.{index_of, Ascends}
-use Rattle.dep_hub.specs.Owing.{IsOwed}
+use Rattle.dep_hub.specs.Owed.{IsOwed}
 use Rattle.dep_hub.specs.Preparing.{HasTurn, MakesStepFor, goes_on, ends, is_preparing, steps_of}
-use Rattle.dep_hub.specs.Records.{Run, stops, stopped, first_world}
+use Rattle.dep_exchange.specs.Records.{Run, stops, stopped, first_world}
 use Rattle.dep_hub.specs.Representing.{intake_of, store_of}
 use Rattle.dep_hub.specs.RepresentsOwing.{KeptBack, unsent, prepares_still, begins_to_prepare, waits_still, begins_to_wait, lacks_memory, behind_at}
 use Rattle.dep_hub.specs.WorkingAhead.{AheadContents, AheadEnds, AheadRepresents, AheadTakesTurns, MakesOneStep, for_none, for_one, PreparesOnce, RestsAhead, steps_below}
@@ -30,7 +30,7 @@ use Rattle.dep_hub.specs.declared.rest.Behind.{Behind}
 use Rattle.dep_hub.specs.declared.rest.Behind.TheVariants.{Nothing, Content, Broken, Waits, Prepares, Prepared}
 use Rattle.dep_hub.proofs.BehindLemmas.{behind_some, behinds_are, intakes_stay, others_are}
 use Rattle.dep_hub.proofs.ConnectionLemmas.{ascends_le}
-use Rattle.dep_hub.proofs.Leaving.{leaves_wider}
+use Rattle.dep_exchange.proofs.Leaving.{leaves_wider}
 use Rattle.dep_hub.proofs.TurnLemmas.{turn_of, comes_nearer, was_prepared}
 use Rattle.dep_hub.proofs.PendingLemmas.{true_false}
 

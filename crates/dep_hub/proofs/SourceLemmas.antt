@@ -8,10 +8,9 @@ use Rattle.dep_types.specs.declared.config.Config.{Config}
 use Rattle.dep_types.specs.declared.refusal.Refusal.{Refusal}
 use Rattle.dep_types.specs.declared.refusal.Refusal.TheVariants as why
 use Rattle.dep_types.proofs.TickSound.{keeps_sound}
-use Rattle.dep_answers.specs.Performing.{IsReady, file_id}
-use Rattle.dep_answers.specs.Steps.{Stepped, refused_step}
+use Rattle.dep_answers.specs.Performing.{file_id}
+use Rattle.dep_answers.specs.Steps.{refused_step}
 use Rattle.dep_answers.specs.declared.performed.FileId.{FileId}
-use Rattle.dep_answers.specs.declared.performed.Performed.{Performed}
 use Rattle.dep_answers.specs.declared.performed.StoredFile.{StoredFile}
 use Rattle.dep_answers.proofs.RefusedSteps.{no_source}
 use Rattle.dep_answers.proofs.Sources.{named_source}
@@ -23,10 +22,10 @@ use Rattle.dep_router.specs.Targets.{target}
 use Rattle.dep_router.specs.declared.routed.Routed.{Routed}
 use Rattle.dep_router.specs.declared.routed.Routed.TheVariants.{To, NotFound, NotAllowed}
 use Rattle.dep_hub.specs.Claims.{any_waits_to_take, claim_by, claim_of, claim_to, has_to_wait, is_awaited_by, reads_of, sends_of, waits_to_take}
-use Rattle.dep_hub.specs.Machine.{operation_of, routed_step, step}
-use Rattle.dep_hub.specs.Owing.{later_than}
+use Rattle.dep_exchange.specs.Machine.{operation_of, routed_step, step}
+use Rattle.dep_hub.specs.Owed.{later_than}
 use Rattle.dep_hub.specs.RepresentsOwing.{IsFree, KeepsBack, KeptBack, unsent, prepares_still, begins_to_prepare, waits_still, begins_to_wait, lacks_memory, behind_at}
-use Rattle.dep_hub.specs.Serving.{BeginsFirst}
+use Rattle.dep_exchange.specs.Serving.{BeginsFirst}
 use Rattle.dep_hub.specs.declared.claim.Claim.{Claim}
 use Rattle.dep_hub.specs.declared.claim.Claim.TheVariants.{Reads, Takes}
 use Rattle.dep_hub.specs.declared.claim.Files.{Files}
@@ -34,23 +33,9 @@ use Rattle.dep_hub.specs.declared.hub.Hub.{Hub}
 use Rattle.dep_hub.specs.declared.rest.Behind.{Behind}
 use Rattle.dep_hub.specs.declared.rest.Behind.TheVariants.{Nothing, Content, Broken, Waits, Prepares, Prepared}
 use Rattle.dep_hub.specs.declared.connections.Connection.{Connection}
-use Rattle.dep_hub.specs.declared.rest.Rest.{Rest}
+use Rattle.dep_exchange.specs.declared.rest.Rest.{Rest}
+use Rattle.dep_exchange.proofs.BeginLemmas.{begins_as}
 use Rattle.dep_hub.proofs.PendingLemmas.{any_at, any_unset, true_false}
-
--- ---- what is ready
-
--- nothing begins
-pub unbegun : (P : Rest → Type 0) (o : Option Rest) → o ≡ None → IfSome o P
-unbegun P o e = subst (λ (x : Option Rest). IfSome x P) (sym e) tt
-
--- what begins is this, of which that is known
-pub begins_as : (P Q : Rest → Type 0) (o : Option Rest) → ((r : Rest) → P r → Q r) → IfSome o P → IfSome o Q
-begins_as P Q None f h = tt
-begins_as P Q (Some r) f h = f r h
-
--- it is the content of the file that the step names
-pub ready_source : (stepped : Stepped) (p : Performed) (it : StoredFile) → IsReady stepped p → p.stored ≡ Some it → stepped.source ≡ Some (file_id it)
-ready_source stepped p it ready e = subst (λ (o : Option StoredFile). IfSome o (λ x. stepped.source ≡ Some (file_id x))) e ready.source
 
 -- ---- the request that names it
 

@@ -7,15 +7,15 @@ use Rattle.dep_types.specs.declared.config.Config.{Config}
 use Rattle.dep_types.specs.Conditions.{Condition, Represents, Leaves}
 use Rattle.dep_message.specs.Places.{Place, Reading, place_with}
 use Rattle.dep_message.specs.Stream.{Item}
-use Rattle.dep_hub.specs.Machine.{Serves, serves_all, step_fails, gives_up, SendsUpTo, out_of_memory}
-use Rattle.dep_hub.specs.Records.{Event, Arrive, Record, stopped, Run, Line, World, first_world, with_line, Arrives, at_live, at_shut_line, LeftByArrival}
+use Rattle.dep_exchange.specs.Machine.{Serves, serves_all, step_fails, gives_up, SendsUpTo, out_of_memory}
+use Rattle.dep_exchange.specs.Records.{Event, Arrive, Record, stopped, Run, Line, World, first_world, with_line, Arrives, at_live, at_shut_line, LeftByArrival}
 use Rattle.dep_hub.specs.Representing.{IsKeptAs, intake_of, store_of, IsClean, IsHonest, IsNoSuch}
-use Rattle.dep_hub.specs.Causes.{HasCause}
-use Rattle.dep_hub.specs.Shut.{LeavesNoMore, IfShut, SendsFixed}
-use Rattle.dep_hub.specs.declared.arrived.Arrived.{Arrived}
-use Rattle.dep_hub.specs.declared.arrived.Arrived.TheVariants as came
-use Rattle.dep_hub.specs.declared.next.Next.{Next}
-use Rattle.dep_hub.specs.declared.next.Next.TheVariants.{More, Waiting, Closed, Cut, NoSuch}
+use Rattle.dep_exchange.specs.Causes.{HasCause}
+use Rattle.dep_exchange.specs.Shut.{LeavesNoMore, IfShut, SendsFixed}
+use Rattle.dep_exchange.specs.declared.arrived.Arrived.{Arrived}
+use Rattle.dep_exchange.specs.declared.arrived.Arrived.TheVariants as came
+use Rattle.dep_exchange.specs.declared.next.Next.{Next}
+use Rattle.dep_exchange.specs.declared.next.Next.TheVariants.{More, Waiting, Closed, Cut, NoSuch}
 use Rattle.dep_hub.specs.declared.hub.Hub.{Hub}
 
 -- the bytes that each connection holds, with these of one

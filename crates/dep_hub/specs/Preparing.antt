@@ -11,8 +11,8 @@ use Rattle.dep_message.specs.Showing.{IsNoNext}
 use Rattle.dep_message.specs.Stream.{Request, FirstAt}
 use Rattle.dep_message.specs.declared.message.Message.{Message}
 use Rattle.dep_types.specs.Conditions.{Condition}
-use Rattle.dep_hub.specs.Archives.{CommitsIfDue, KeepsEachState}
-use Rattle.dep_hub.specs.ArchiveCalls.{CallLog, Runs, WorkedAhead}
+use Rattle.dep_exchange.specs.Archives.{CommitsIfDue, KeepsEachState}
+use Rattle.dep_exchange.specs.ArchiveCalls.{CallLog, Runs, WorkedAhead}
 use Rattle.dep_hub.specs.declared.connections.Connection.{Connection}
 use Rattle.dep_hub.specs.declared.rest.Behind.{Behind}
 use Rattle.dep_hub.specs.declared.rest.Behind.TheVariants.{Nothing, Prepares, Prepared}

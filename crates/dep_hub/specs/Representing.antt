@@ -6,12 +6,12 @@ use Rattle.dep_types.specs.declared.config.Config.{Config}
 use Rattle.dep_message.specs.Places.{Shut, Reading, IsOpen}
 use Rattle.dep_message.specs.Stream.{Item, Spells}
 use Rattle.dep_types.specs.Conditions.{Condition, Represents, HasCleanDisk, Leaves}
-use Rattle.dep_hub.specs.Records.{Event, Arrive, Record, stopped, Line, Absent, Live, ShutLine, World, Run, first_world, with_line, Arrives, LeftByArrival, Happens}
-use Rattle.dep_hub.specs.declared.arrived.Arrived.{Arrived}
-use Rattle.dep_hub.specs.declared.arrived.Arrived.TheVariants.{Open as StaysOpen, Closed, Cut, NoSuch}
+use Rattle.dep_exchange.specs.Records.{Event, Arrive, Record, stopped, Line, Absent, Live, ShutLine, World, Run, first_world, with_line, Arrives, LeftByArrival, Happens}
+use Rattle.dep_exchange.specs.declared.arrived.Arrived.{Arrived}
+use Rattle.dep_exchange.specs.declared.arrived.Arrived.TheVariants.{Open as StaysOpen, Closed, Cut, NoSuch}
 use Rattle.dep_hub.specs.declared.connections.Connection.{Connection}
-use Rattle.dep_hub.specs.Causes.{HasCause}
-use Rattle.dep_hub.specs.Shut.{LeavesNoMore, IfShut, SendsFixed}
+use Rattle.dep_exchange.specs.Causes.{HasCause}
+use Rattle.dep_exchange.specs.Shut.{LeavesNoMore, IfShut, SendsFixed}
 use Rattle.dep_hub.specs.declared.hub.Hub.{Hub}
 
 -- the intake of a connection, if it is there

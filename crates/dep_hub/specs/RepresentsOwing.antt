@@ -8,11 +8,12 @@ use Rattle.dep_message.specs.Places.{Place, Reading}
 use Rattle.dep_message.specs.Showing.{IsNoNext}
 use Rattle.dep_message.specs.Stream.{FirstAt, Request}
 use Rattle.dep_message.specs.declared.message.Message.{Message}
-use Rattle.dep_hub.specs.Records.{Arrive, Record, Run, World, with_line}
-use Rattle.dep_hub.specs.Shut.{LeavesNoMore, IfShut}
+use Rattle.dep_exchange.specs.Records.{Arrive, Record, Run, World, with_line}
+use Rattle.dep_exchange.specs.Shut.{LeavesNoMore, IfShut}
 use Rattle.dep_hub.specs.Representing.{store_of, intake_of, IsClean, IsHonest}
 use Rattle.dep_hub.specs.Holding.{RepresentsHolding, ComesToNext, PartArrives, items_answered, with_held}
-use Rattle.dep_hub.specs.Owing.{IsOwed, TakesFew, with_more, bytes_later}
+use Rattle.dep_exchange.specs.Owing.{TakesFew, with_more}
+use Rattle.dep_hub.specs.Owed.{IsOwed, bytes_later}
 use Rattle.dep_hub.specs.declared.rest.Behind.{Behind}
 use Rattle.dep_hub.specs.declared.rest.Behind.TheVariants.{Nothing, Content, Broken, Waits, Prepares, Prepared}
 use Rattle.dep_hub.specs.declared.claim.Claim.{Claim}
@@ -22,8 +23,8 @@ use Rattle.dep_hub.specs.Claims.{claim_of, has_to_wait, is_any_pending, is_await
 use Rattle.dep_hub.specs.Preparing.{IsLookedAt, NamesNone, NamesUploads, is_preparing, most_steps, names_uploads}
 use Rattle.dep_hub.specs.declared.sent_on.SentOn.{SentOn}
 use Rattle.dep_hub.specs.declared.sent_on.SentOn.TheVariants.{Part, All, Broken as BrokenOff}
-use Rattle.dep_hub.specs.declared.arrived.Arrived.{Arrived}
-use Rattle.dep_hub.specs.declared.next.Next.{Next}
+use Rattle.dep_exchange.specs.declared.arrived.Arrived.{Arrived}
+use Rattle.dep_exchange.specs.declared.next.Next.{Next}
 use Rattle.dep_hub.specs.declared.connections.Connection.{Connection}
 use Rattle.dep_hub.specs.declared.hub.Hub.{Hub}
 

@@ -1,8 +1,8 @@
 -- What working ahead does to a hub, and how the preparing of requests ends.
 use Rattle.std.specs.Prelude.{◌≡◌, ◌⊎◌, ◌<◌, ◌≤◌, ◌+◌, ◌&&◌, nat_lt, is_some, ℕ, zero, suc, Bool, true, false, List, Option, if◌then◌else◌}
 use Rattle.dep_types.specs.Conditions.{Condition}
-use Rattle.dep_hub.specs.Records.{World}
-use Rattle.dep_hub.specs.Archives.{KeepsEachState}
+use Rattle.dep_exchange.specs.Records.{World}
+use Rattle.dep_exchange.specs.Archives.{KeepsEachState}
 use Rattle.dep_hub.specs.Representing.{store_of, intake_of, IsClean}
 use Rattle.dep_hub.specs.Holding.{RepresentsOn, StopsOn}
 use Rattle.dep_hub.specs.Claims.{is_content}

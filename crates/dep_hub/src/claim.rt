@@ -3,8 +3,8 @@ ghost use Rattle.std.specs.Prelude.{◌≡◌, IfOk};
 ghost use Rattle.dep_hub.specs.Claims as spec;
 ghost use Rattle.dep_hub.specs.Claims.{claim_by, claim_to, has_file, read_of, taken_of};
 
-use crate::site::Site;
 use dep_bag::file_number;
+use dep_exchange::Site;
 use dep_head::Head;
 use dep_router::Routed;
 use dep_types::{Method, Resource};

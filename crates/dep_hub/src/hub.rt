@@ -3,27 +3,24 @@ ghost use Rattle.std.specs.Prelude.{◌+◌, ◌≡◌, ◌≤◌, [], ◌∷◌
 ghost use Rattle.dep_types.specs.State.{State};
 ghost use Rattle.dep_types.specs.Config.{IsChecked};
 ghost use Rattle.dep_types.specs.Conditions.{Represents, Leaves};
-ghost use Rattle.dep_hub.specs.Records.{Connect, Close, Record, World, Run, Absent, Live, stopped, first_world};
+ghost use Rattle.dep_exchange.specs.Records.{Connect, Close, Record, World, Run, Absent, Live, stopped, first_world};
 ghost use Rattle.dep_hub.specs.Claims.{is_any_pending, is_any_waiting};
 ghost use Rattle.dep_hub.specs.Numbers.{Ascends, Ascends-prop, HasPlace, most_connections, last_number};
 
-use crate::access_log::{AccessLog, NoLog};
-use crate::archive::Archive;
-use crate::arrived::Arrived;
 use crate::connections::{ConnId, Connection, index_among};
-use crate::contents::InSteps;
 use crate::faults::{ConnectFault, HubFault};
 use crate::keeping::{Look, look_at};
-use crate::next::Next;
 use crate::pending::{
     has_to_wait, is_any_pending, is_any_waiting, is_awaited, next_prepared, still_pending,
     still_waiting, waits_on,
 };
 use crate::preparing::prepare;
-use crate::rest::{Behind, Rest, behind_of};
+use crate::rest::{Behind, behind_of};
 use crate::sent_on::SentOn;
-use crate::serving::{Piece, give_up, serve, take_next};
-use crate::site::{Context, Site};
+use dep_exchange::{
+    AccessLog, Archive, Arrived, Context, InSteps, Next, NoLog, Piece, Rest, Site, give_up, serve,
+    take_next,
+};
 use dep_message::Intake;
 use dep_moment::Moment;
 use dep_types::{Config, ConfigFault, Outlet, StoreFault};
@@ -60,9 +57,9 @@ impl<A: Archive> Hub<A> {
     ghost use Rattle.dep_hub.specs.WorkingAhead.{RestsAhead};
     ghost use Rattle.dep_hub.specs.Numbers.{index_of};
     ghost use Rattle.std.specs.Prelude.{ℕ, Option, Some, ◌==◌, ◌<◌, if◌then◌else◌, true, false};
-    ghost use Rattle.dep_hub.specs.Archives.{KeepsAll, CommitsIfDue};
-    ghost use Rattle.dep_hub.specs.Shut.{ReportsOpen};
-    ghost use Rattle.dep_hub.specs.ArchiveCalls.{Asked, WorkedAhead, Runs, FailsToReport};
+    ghost use Rattle.dep_exchange.specs.Archives.{KeepsAll, CommitsIfDue};
+    ghost use Rattle.dep_exchange.specs.Shut.{ReportsOpen};
+    ghost use Rattle.dep_exchange.specs.ArchiveCalls.{Asked, WorkedAhead, Runs, FailsToReport};
 
     /// A hub over the store, without connections. A refusal hands the store back.
     pub fn new(alloc: Global, config: Config, store: A) -> Result<Hub<A>, (HubFault, A)>

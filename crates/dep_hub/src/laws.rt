@@ -1,13 +1,13 @@
 //! What follows for the runs of a hub that is offered pieces and answers one item at a time, apart from any code.
 ghost use Rattle.std.specs.Prelude.{◌≡◌, ℕ, List, []};
-ghost use Rattle.dep_hub.specs.Records.{Connect, Close, Absent, Live, World};
+ghost use Rattle.dep_exchange.specs.Records.{Connect, Close, Absent, Live, World};
 ghost use Rattle.dep_hub.specs.Representing.{RepresentsAt};
 ghost use Rattle.dep_hub.specs.Holding.{RepresentsHolding, AnswersAdd, AnswersStop, LineAdds, StopsAnswered, with_held};
 ghost use Rattle.dep_hub.specs.RepresentsOwing.{AnswersAtOnce, AwaitsContent, AwaitsTaker, ContentsStay, RepliesAdd, RepliesKeep, SendingRepresents, WaitingRepresents};
 ghost use Rattle.dep_hub.specs.WorkingAhead.{AheadContents, AheadEnds, AheadRepresents, AheadTakesTurns, PreparesOnce};
 ghost use Rattle.dep_hub.specs.declared.hub.Hub.{Hub as AnyHub};
 
-use crate::archive::Archive;
+use dep_exchange::Archive;
 
 /// A hub stands at a world just where it stands there and holds nothing.
 pub fn nothing_held<A: Archive>()

@@ -2,11 +2,10 @@
 ghost use Rattle.std.specs.Prelude.{◌≡◌, true, MatchOption};
 ghost use Rattle.dep_hub.specs.Preparing.{MakesStepFor, Works, is_preparing};
 
-use crate::archive::Archive;
 use crate::connections::Connection;
 use crate::rest::Behind;
-use crate::site::Site;
 use dep_decisions::Operation;
+use dep_exchange::{Archive, Site};
 use dep_fields::SwordFields;
 use dep_head::Head;
 use dep_message::{Intake, Message, Preview, closes};

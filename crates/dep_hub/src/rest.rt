@@ -1,17 +1,10 @@
 //! What is still to be sent of a reply.
 
 ghost use Rattle.std.specs.Prelude.{◌≡◌};
-ghost use Rattle.dep_hub.specs.Owing.{later_than};
+ghost use Rattle.dep_hub.specs.Owed.{later_than};
 
 use crate::claim::Claim;
-use dep_answers::StoredFile;
-
-/// A content that goes out in steps, and how many of its bytes were sent.
-#[derive(Clone, Copy)]
-pub(crate) struct Rest {
-    pub file: StoredFile,
-    pub sent: u64,
-}
+use dep_exchange::Rest;
 
 /// What is behind the last reply of a connection.
 #[derive(Clone, Copy)]

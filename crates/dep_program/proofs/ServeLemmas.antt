@@ -13,7 +13,7 @@ use Rattle.dep_connection.specs.declared.connection.Served.{Served}
 use Rattle.dep_connection.specs.declared.connection.Served.TheVariants.{Ended, Closed, Unserved, ReadFault, WriteFault, Bound}
 use Rattle.dep_hub.specs.declared.hub.Hub.{Hub}
 use Rattle.dep_connection.proofs.TalkLemmas.{unserved, converses_wider}
-use Rattle.dep_hub.proofs.Leaving.{Settles, stays_as}
+use Rattle.dep_exchange.proofs.Leaving.{Settles, stays_as}
 use Rattle.dep_program.specs.Serves.{ServesOne, socket_out, socket_wire, AnyOut, Conversation, AreAmong, ServesThese, all_records_of, all_turns_of}
 
 -- one list of steps behind another

@@ -1,7 +1,7 @@
 -- Connections that are accepted at a listener and served one after another.
 use Rattle.std.specs.Prelude.{◌≡◌, ◌⊎◌, ◌<◌, ◌+◌, ℕ, Bool, false, List, [], All, None, length}
 use Rattle.std.specs.List.{flat_map}
-use Rattle.dep_hub.specs.Records.{Record}
+use Rattle.dep_exchange.specs.Records.{Record}
 use Rattle.dep_hub.specs.Representing.{ServesAs}
 use Rattle.dep_connection.specs.Turns.{Turn, records_of, ArePieces}
 use Rattle.dep_connection.specs.Conversation.{Outflow, Wire, session, AddsAll, Clocks, ConversesOver}

@@ -2,8 +2,8 @@
 use Rattle.std.proofs.Common.{inl, Err}
 use Rattle.dep_types.specs.State.{State}
 use Rattle.dep_types.specs.Conditions.{Condition}
-use Rattle.dep_hub.specs.Archives.{TriesTo}
-use Rattle.dep_hub.proofs.Leaving.{Settles, leaves_wider}
+use Rattle.dep_exchange.specs.Archives.{TriesTo}
+use Rattle.dep_exchange.proofs.Leaving.{Settles, leaves_wider}
 
 -- it fails without having been asked
 pub fails_unasked : {A E : Type 0} (c : Condition) (holds : State → Type 0) (reported : State → A → Type 0) (next : State → State) (fault : E)

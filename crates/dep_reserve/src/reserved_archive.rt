@@ -4,14 +4,14 @@ ghost use Rattle.std.specs.Prelude.{◌≡◌, ◌≢◌, Err, IsTrue, false, is
 ghost use Rattle.dep_types.specs.declared.store_fault.StoreFault.TheVariants.{Store};
 ghost use Rattle.dep_fields.specs.Fit.{AreFit};
 ghost use Rattle.dep_answers.specs.Steps.{operation_step};
-ghost use Rattle.dep_hub.specs.Archives.{Ticks, MakesStep, FallsDue, FailsIfShut, KeepsState, CountsFailures};
-ghost use Rattle.dep_hub.specs.Owing.{Begins, StreamsOn, TakesFew};
+ghost use Rattle.dep_exchange.specs.Archives.{Ticks, MakesStep, FallsDue, FailsIfShut, KeepsState, CountsFailures};
+ghost use Rattle.dep_exchange.specs.Owing.{Begins, StreamsOn, TakesFew};
 ghost use Rattle.dep_reserve.specs.Reserving.{brings_content, is_low, turns_away};
 
 use crate::reserve::Reserve;
 use dep_answers::{Performed, Service, StoredFile};
 use dep_decisions::Operation;
-use dep_hub::Archive;
+use dep_exchange::Archive;
 use dep_moment::Moment;
 use dep_types::{Config, Method, Outlet, StoreFault, StreamFault};
 

@@ -28,7 +28,7 @@ use Rattle.dep_message.specs.declared.message.Message.{Message}
 use Rattle.dep_router.specs.Targets.{target}
 use Rattle.dep_router.specs.declared.routed.Routed.{Routed}
 use Rattle.dep_router.specs.declared.routed.Routed.TheVariants.{To}
-use Rattle.dep_hub.specs.Machine.{operation_of, routed_step, step}
+use Rattle.dep_exchange.specs.Machine.{operation_of, routed_step, step}
 use Rattle.dep_decisions.specs.Laws.{posted_to}
 use Rattle.dep_server.specs.Acknowledged.{HasStatus, IsReceived}
 use Rattle.dep_server.proofs.SegmentsStay.{received_by}

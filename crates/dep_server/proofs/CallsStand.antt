@@ -2,11 +2,11 @@
 use Rattle.std.proofs.Common.{◌≡◌, ℕ, List, ◌++◌, IsTrue, sym, subst, append_assoc, append-nil}
 use Rattle.dep_types.specs.State.{State}
 use Rattle.dep_types.specs.Conditions.{Condition}
-use Rattle.dep_hub.specs.Records.{Record}
+use Rattle.dep_exchange.specs.Records.{Record}
 use Rattle.dep_hub.specs.Representing.{RepresentsAfter, IsClean}
 use Rattle.dep_hub.specs.declared.hub.Hub.{Hub}
-use Rattle.dep_hub.specs.declared.arrived.Arrived.{Arrived}
-use Rattle.dep_hub.specs.declared.arrived.Arrived.TheVariants.{Open as StaysOpen, Closed, Cut, NoSuch}
+use Rattle.dep_exchange.specs.declared.arrived.Arrived.{Arrived}
+use Rattle.dep_exchange.specs.declared.arrived.Arrived.TheVariants.{Open as StaysOpen, Closed, Cut, NoSuch}
 use Rattle.dep_hub.proofs.HubLemmas.{same_represents}
 use Rattle.dep_server.specs.Calls.{Comes, Call, Calls, connects, refuses, closes, arrives, none, and_then, records_of}
 

@@ -5,10 +5,10 @@ use Rattle.dep_types.specs.declared.config.Config.{Config}
 use Rattle.dep_message.specs.Places.{Place}
 use Rattle.dep_message.specs.Stream.{Item}
 use Rattle.dep_answers.specs.Steps.{sent_by}
-use Rattle.dep_hub.specs.Machine.{step, replies, state_after, Serves}
-use Rattle.dep_hub.specs.Records.{Event, Record, stopped, Line, World, Run, Happens, Arrives}
+use Rattle.dep_exchange.specs.Machine.{step, replies, state_after, Serves}
+use Rattle.dep_exchange.specs.Records.{Event, Record, stopped, Line, World, Run, Happens, Arrives}
 use Rattle.dep_server.specs.Calm.{SteppedItem, steps_of, CalmServes, all_served, CalmArrives, live, shut_line, Calm, connect, close, arrive, none, CalmRun, AnyCalmRun, BeginAlike, nothing, more, stop, is_of, sent_to, bytes_if, EndAlike}
-use Rattle.dep_hub.specs.declared.arrived.Arrived.{Arrived}
+use Rattle.dep_exchange.specs.declared.arrived.Arrived.{Arrived}
 
 -- the state that the steps leave
 pub state_by : Config → State → List SteppedItem → State

@@ -19,8 +19,8 @@ use Rattle.dep_message.specs.declared.message.Message.{Message}
 use Rattle.dep_router.specs.Targets.{target}
 use Rattle.dep_router.specs.declared.routed.Routed.{Routed}
 use Rattle.dep_router.specs.declared.routed.Routed.TheVariants.{To, NotFound, NotAllowed}
-use Rattle.dep_hub.specs.Machine.{operation_of, routed_step, step}
-use Rattle.dep_hub.specs.Records.{Record, World, Run}
+use Rattle.dep_exchange.specs.Machine.{operation_of, routed_step, step}
+use Rattle.dep_exchange.specs.Records.{Record, World, Run}
 use Rattle.dep_server.specs.Moves.{Move, Made, Begun, moved, state_by, moves_of}
 use Rattle.dep_server.specs.Requests.{AnyRequest, step_of, ticked, left_by, IsAccepted, IsAcceptedFor}
 use Rattle.dep_server.specs.Runs.{AnyRun, RequestIn, as_it_came}

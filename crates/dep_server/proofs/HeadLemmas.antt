@@ -30,7 +30,7 @@ use Rattle.dep_answers.specs.Replies.{unless_head_only, front_text, refused_answ
 use Rattle.dep_answers.specs.Steps.{is_head, accepted_answer, step_by, operation_step}
 use Rattle.dep_answers.proofs.Unbroken.{answer_unbroken, refused_unbroken}
 use Rattle.dep_router.specs.Targets.{target, to_resource, to_method, method_of, segments, resource_of, allow_text}
-use Rattle.dep_hub.specs.Machine.{operation_of, routed_step, step}
+use Rattle.dep_exchange.specs.Machine.{operation_of, routed_step, step}
 use Rattle.dep_server.specs.ReplyHeads.{IsWholeReply, IsUnsplit}
 
 whole_reply : (a : Answer) (clock : ℕ) (head_only ends : Bool) → IsUnbroken (head_of a clock ends) → IsWholeReply (front_text a clock head_only ends)

@@ -32,7 +32,7 @@ use Rattle.dep_router.specs.Targets.{target, to_resource, segments, resource_of,
 use Rattle.dep_message.specs.Heads.{closes}
 use Rattle.dep_message.specs.Stream.{Request}
 use Rattle.dep_message.specs.declared.message.Message.{Message}
-use Rattle.dep_hub.specs.Machine.{operation_of, routed_step, step}
+use Rattle.dep_exchange.specs.Machine.{operation_of, routed_step, step}
 use Rattle.dep_server.specs.HeadOnly.{request_by, IsWithoutBody}
 
 -- the document and the content of a file are all that is shown

@@ -6,11 +6,11 @@ use Rattle.dep_types.specs.declared.config.Config.{Config}
 use Rattle.dep_types.proofs.TickSound.{keeps_sound}
 use Rattle.dep_message.specs.Places.{Place}
 use Rattle.dep_message.specs.Stream.{Item, Fault, Continue, Request}
-use Rattle.dep_hub.specs.Machine.{starting_state, step, state_after, Serves, serves_all, step_fails, gives_up, Fails, given_up, cut_short}
-use Rattle.dep_hub.specs.Stops.{LeftByFailure, LeftByServing}
-use Rattle.dep_hub.specs.Records.{Event, Record, Line, World, Arrives, at_live, at_shut_line, LeftByArrival, Happens, connects, closes, arrives, unknown, Run, begins, goes_on, stops, breaks}
+use Rattle.dep_exchange.specs.Machine.{starting_state, step, state_after, Serves, serves_all, step_fails, gives_up, Fails, given_up, cut_short}
+use Rattle.dep_exchange.specs.Stops.{LeftByFailure, LeftByServing}
+use Rattle.dep_exchange.specs.Records.{Event, Record, Line, World, Arrives, at_live, at_shut_line, LeftByArrival, Happens, connects, closes, arrives, unknown, Run, begins, goes_on, stops, breaks}
 use Rattle.dep_server.specs.Moves.{Move, Made, Begun, moved, state_by, steps_made, moves_by_failure, moves_by_serving, moves_by_arrival, moves_by_event, moves_found_after_failure, moves_found_after_serving, moves_found_after_arrival, moves_of}
-use Rattle.dep_hub.specs.declared.arrived.Arrived.{Arrived}
+use Rattle.dep_exchange.specs.declared.arrived.Arrived.{Arrived}
 use Rattle.dep_server.proofs.SoundLemmas.{step_sound}
 
 module _ (config : Config) where

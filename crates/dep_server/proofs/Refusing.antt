@@ -13,7 +13,7 @@ use Rattle.dep_message.specs.declared.message.Message.{Message}
 use Rattle.dep_router.specs.Targets.{target}
 use Rattle.dep_router.specs.declared.routed.Routed.{Routed}
 use Rattle.dep_router.specs.declared.routed.Routed.TheVariants.{To, NotFound, NotAllowed}
-use Rattle.dep_hub.specs.Machine.{operation_of, routed_step, step}
+use Rattle.dep_exchange.specs.Machine.{operation_of, routed_step, step}
 use Rattle.dep_server.specs.Refused.{routed_refusal, item_refusal, IsRefused}
 
 reported : (s : State) (r : Refusal) (allow : Option (List ℕ)) (head_only ends : Bool) → IsRefused s r (refused_step s r allow head_only ends)

@@ -4,11 +4,11 @@ use Rattle.dep_types.specs.State.{State, tick}
 use Rattle.dep_types.specs.declared.config.Config.{Config}
 use Rattle.dep_message.specs.Places.{Place}
 use Rattle.dep_message.specs.Stream.{Item, Fault, Continue, Request}
-use Rattle.dep_hub.specs.Machine.{starting_state, step, state_after, Serves, serves_all, step_fails, gives_up, Fails, given_up, cut_short}
-use Rattle.dep_hub.specs.Stops.{LeftByFailure, LeftByServing}
-use Rattle.dep_hub.specs.Records.{Event, Record, Line, World, Arrives, at_live, at_shut_line, LeftByArrival, ReadsBeyond, Happens, connects, closes, arrives, unknown, Run, begins, goes_on, stops, breaks}
+use Rattle.dep_exchange.specs.Machine.{starting_state, step, state_after, Serves, serves_all, step_fails, gives_up, Fails, given_up, cut_short}
+use Rattle.dep_exchange.specs.Stops.{LeftByFailure, LeftByServing}
+use Rattle.dep_exchange.specs.Records.{Event, Record, Line, World, Arrives, at_live, at_shut_line, LeftByArrival, ReadsBeyond, Happens, connects, closes, arrives, unknown, Run, begins, goes_on, stops, breaks}
 use Rattle.dep_server.specs.Acknowledged.{IsAfterSome, ServesThrough, ArrivesThrough, HappensThrough, RunsThrough}
-use Rattle.dep_hub.specs.declared.arrived.Arrived.{Arrived}
+use Rattle.dep_exchange.specs.declared.arrived.Arrived.{Arrived}
 
 module _ (config : Config) (P : State → Type 0)
     (ticks : (s : State) (moment : ℕ) → P s → P (tick config s moment))

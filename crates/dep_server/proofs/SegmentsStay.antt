@@ -20,8 +20,8 @@ use Rattle.dep_message.specs.declared.message.Message.{Message}
 use Rattle.dep_router.specs.Targets.{target}
 use Rattle.dep_router.specs.declared.routed.Routed.{Routed}
 use Rattle.dep_router.specs.declared.routed.Routed.TheVariants.{To}
-use Rattle.dep_hub.specs.Machine.{operation_of, routed_step, step}
-use Rattle.dep_hub.specs.Records.{Record, World, Run}
+use Rattle.dep_exchange.specs.Machine.{operation_of, routed_step, step}
+use Rattle.dep_exchange.specs.Records.{Record, World, Run}
 use Rattle.dep_server.specs.Acknowledged.{RunsThrough, HasSegment, IsGone}
 use Rattle.dep_server.proofs.UploadsKept.{HoldsStill, IsKept, still_there}
 

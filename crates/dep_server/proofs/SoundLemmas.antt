@@ -13,7 +13,7 @@ use Rattle.dep_decisions.specs.Rules.{refusal}
 use Rattle.dep_decisions.specs.declared.operation.Operation.{Operation}
 use Rattle.dep_decisions.proofs.Accepted.{effect_sound}
 use Rattle.dep_answers.specs.Steps.{step_by, operation_step}
-use Rattle.dep_hub.specs.Machine.{operation_of, routed_step, step}
+use Rattle.dep_exchange.specs.Machine.{operation_of, routed_step, step}
 use Rattle.dep_router.specs.Targets.{target}
 use Rattle.dep_router.specs.declared.routed.Routed.{Routed}
 use Rattle.dep_router.specs.declared.routed.Routed.TheVariants.{To, NotFound, NotAllowed}

@@ -12,11 +12,11 @@ use Rattle.dep_message.specs.Places.{Place, Open, Shut}
 use Rattle.dep_message.specs.Stream.{Item, Spells, Reads, Waits}
 use Rattle.dep_message.proofs.OneReading.{one_spelling}
 use Rattle.dep_message.proofs.Reading.{reads_more}
-use Rattle.dep_hub.specs.Machine.{Serves}
-use Rattle.dep_hub.specs.Records.{Event, Record, stopped, Line, Absent, Live, ShutLine, World, line_after, ReadsBeyond, Run, Happens, Arrives}
+use Rattle.dep_exchange.specs.Machine.{Serves}
+use Rattle.dep_exchange.specs.Records.{Event, Record, stopped, Line, Absent, Live, ShutLine, World, line_after, ReadsBeyond, Run, Happens, Arrives}
 use Rattle.dep_server.specs.Calm.{SteppedItem, steps_of, CalmServes, all_served, CalmArrives, live, shut_line, Calm, connect, close, arrive, none, CalmRun, AnyCalmRun, BeginAlike, nothing, more as one_more, stop as one_stop}
 use Rattle.dep_server.specs.Streams.{Streams, all_streams, with_event, streams_over, streams_of, items_of, AreSpelled, no_stream, first_stream, SchedulePoint, schedule_points_of, HaveSameStreams, HaveSameItems}
-use Rattle.dep_hub.specs.declared.arrived.Arrived.{Arrived}
+use Rattle.dep_exchange.specs.declared.arrived.Arrived.{Arrived}
 
 -- ---- one list of items for one list of streams
 

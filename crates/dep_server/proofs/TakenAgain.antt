@@ -27,10 +27,10 @@ use Rattle.dep_reply.specs.Head.{status_line}
 use Rattle.dep_router.specs.Targets.{target}
 use Rattle.dep_router.specs.declared.routed.Routed.{Routed}
 use Rattle.dep_router.specs.declared.routed.Routed.TheVariants.{To}
-use Rattle.dep_hub.specs.Machine.{operation_of, routed_step, step, starting_state, Fails, given_up, cut_short, Serves, serves_all, step_fails, gives_up}
-use Rattle.dep_hub.specs.Stops.{LeftByFailure, LeftByServing}
-use Rattle.dep_hub.specs.Records.{Event, Record, Line, World, Arrives, at_live, at_shut_line, LeftByArrival, Happens, connects, closes, arrives, unknown, Run, begins, goes_on, stops, breaks}
-use Rattle.dep_hub.specs.declared.arrived.Arrived.{Arrived}
+use Rattle.dep_exchange.specs.Machine.{operation_of, routed_step, step, starting_state, Fails, given_up, cut_short, Serves, serves_all, step_fails, gives_up}
+use Rattle.dep_exchange.specs.Stops.{LeftByFailure, LeftByServing}
+use Rattle.dep_exchange.specs.Records.{Event, Record, Line, World, Arrives, at_live, at_shut_line, LeftByArrival, Happens, connects, closes, arrives, unknown, Run, begins, goes_on, stops, breaks}
+use Rattle.dep_exchange.specs.declared.arrived.Arrived.{Arrived}
 use Rattle.dep_server.specs.Acknowledged.{RunsThrough, HasSegment, HasStatus}
 use Rattle.dep_server.specs.Requests.{IsAccepted}
 use Rattle.dep_server.specs.TakenAgain.{FailsAt, ArrivalFailsAt, EventFailsAt, EndsInWork, IsAcknowledged}

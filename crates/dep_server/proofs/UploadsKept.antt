@@ -29,8 +29,8 @@ use Rattle.dep_message.specs.declared.message.Message.{Message}
 use Rattle.dep_router.specs.Targets.{target}
 use Rattle.dep_router.specs.declared.routed.Routed.{Routed}
 use Rattle.dep_router.specs.declared.routed.Routed.TheVariants.{To, NotFound, NotAllowed}
-use Rattle.dep_hub.specs.Machine.{operation_of, routed_step, starting_state, step}
-use Rattle.dep_hub.specs.Records.{Record, World, Run}
+use Rattle.dep_exchange.specs.Machine.{operation_of, routed_step, starting_state, step}
+use Rattle.dep_exchange.specs.Records.{Record, World, Run}
 use Rattle.dep_server.specs.Acknowledged.{RunsThrough}
 use Rattle.dep_server.specs.Moves.{Move, Made, Begun, state_by}
 use Rattle.dep_server.proofs.RunKeeps.{through_run, from_run}

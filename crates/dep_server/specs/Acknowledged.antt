@@ -17,9 +17,9 @@ use Rattle.dep_decisions.specs.Laws.{posted_to}
 use Rattle.dep_server.specs.Moves.{Move, Made, Begun, state_by}
 use Rattle.dep_server.specs.Requests.{IsAccepted}
 use Rattle.dep_server.specs.Runs.{AnyRun, PointOf, state_at}
-use Rattle.dep_hub.specs.Machine.{operation_of, state_after, Serves, serves_all, step_fails, gives_up}
-use Rattle.dep_hub.specs.Records.{Event, Record, Line, World, Run, begins, goes_on, stops, breaks, Happens, connects, closes, arrives, unknown, Arrives, at_live, at_shut_line}
-use Rattle.dep_hub.specs.declared.arrived.Arrived.{Arrived}
+use Rattle.dep_exchange.specs.Machine.{operation_of, state_after, Serves, serves_all, step_fails, gives_up}
+use Rattle.dep_exchange.specs.Records.{Event, Record, Line, World, Run, begins, goes_on, stops, breaks, Happens, connects, closes, arrives, unknown, Arrives, at_live, at_shut_line}
+use Rattle.dep_exchange.specs.declared.arrived.Arrived.{Arrived}
 
 -- the state after some of these items
 pub record IsAfterSome (config : Config) (s : State) (items : List Item) (moment : ℕ)

@@ -5,9 +5,9 @@ use Rattle.dep_types.specs.State.{State}
 use Rattle.dep_types.specs.declared.config.Config.{Config}
 use Rattle.dep_message.specs.Places.{Place}
 use Rattle.dep_message.specs.Stream.{Item, Waits}
-use Rattle.dep_hub.specs.Machine.{Serves, serves_all}
-use Rattle.dep_hub.specs.Records.{Event, Connect, Arrive, Close, Stop, Record, Line, Absent, World, Run, begins, goes_on, stops, Happens, connects, closes, arrives, unknown, Arrives, at_live, at_shut_line, ReadsBeyond}
-use Rattle.dep_hub.specs.declared.arrived.Arrived.{Arrived}
+use Rattle.dep_exchange.specs.Machine.{Serves, serves_all}
+use Rattle.dep_exchange.specs.Records.{Event, Connect, Arrive, Close, Stop, Record, Line, Absent, World, Run, begins, goes_on, stops, Happens, connects, closes, arrives, unknown, Arrives, at_live, at_shut_line, ReadsBeyond}
+use Rattle.dep_exchange.specs.declared.arrived.Arrived.{Arrived}
 use Rattle.dep_server.specs.Runs.{AnyRun}
 
 -- a step: whose item it is, and when

@@ -8,7 +8,7 @@ use Rattle.dep_message.specs.Stream.{Request}
 use Rattle.dep_docs_in.specs.declared.reference.Reference.{Reference}
 use Rattle.dep_decisions.specs.Decisions.{references_in}
 use Rattle.dep_decisions.specs.Laws.{IsDepositedFrom, deposited_object, takes_file}
-use Rattle.dep_hub.specs.Machine.{operation_of}
+use Rattle.dep_exchange.specs.Machine.{operation_of}
 use Rattle.dep_server.specs.Moves.{Move, Made, state_by}
 use Rattle.dep_server.specs.Requests.{AnyRequest, step_of, ticked, left_by, IsAccepted, IsAcceptedFor}
 use Rattle.dep_server.specs.Runs.{AnyRun, PointOf, state_at, RequestIn, as_it_came}

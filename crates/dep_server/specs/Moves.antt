@@ -5,10 +5,10 @@ use Rattle.dep_types.specs.State.{State}
 use Rattle.dep_types.specs.declared.config.Config.{Config}
 use Rattle.dep_message.specs.Places.{Place}
 use Rattle.dep_message.specs.Stream.{Item}
-use Rattle.dep_hub.specs.Machine.{step, starting_state, Fails, given_up, cut_short, Serves, serves_all, step_fails, gives_up}
-use Rattle.dep_hub.specs.Stops.{LeftByFailure, LeftByServing}
-use Rattle.dep_hub.specs.Records.{Event, Record, Line, World, Arrives, at_live, at_shut_line, LeftByArrival, Happens, connects, closes, arrives, unknown, Run, begins, goes_on, stops, breaks}
-use Rattle.dep_hub.specs.declared.arrived.Arrived.{Arrived}
+use Rattle.dep_exchange.specs.Machine.{step, starting_state, Fails, given_up, cut_short, Serves, serves_all, step_fails, gives_up}
+use Rattle.dep_exchange.specs.Stops.{LeftByFailure, LeftByServing}
+use Rattle.dep_exchange.specs.Records.{Event, Record, Line, World, Arrives, at_live, at_shut_line, LeftByArrival, Happens, connects, closes, arrives, unknown, Run, begins, goes_on, stops, breaks}
+use Rattle.dep_exchange.specs.declared.arrived.Arrived.{Arrived}
 
 -- the step of an item is made; or it is only begun, and given up
 pub data Move : Type 0 where

@@ -12,7 +12,7 @@ use Rattle.dep_message.specs.Stream.{Item, Fault, Continue, Request}
 use Rattle.dep_decisions.specs.Rules.{refusal}
 use Rattle.dep_answers.specs.Replies.{front_text, refused_answer}
 use Rattle.dep_answers.specs.Steps.{Stepped}
-use Rattle.dep_hub.specs.Machine.{operation_of}
+use Rattle.dep_exchange.specs.Machine.{operation_of}
 use Rattle.dep_server.specs.Requests.{AnyStep, ticked}
 
 -- why a request is refused, if it is, by what its path and its method name

@@ -12,7 +12,7 @@ use Rattle.dep_decisions.specs.Kinds.{kind_of}
 use Rattle.dep_decisions.specs.Laws.{posted_to}
 use Rattle.dep_decisions.specs.Rules.{refusal}
 use Rattle.dep_answers.specs.Steps.{Stepped, sent_by}
-use Rattle.dep_hub.specs.Machine.{operation_of, step}
+use Rattle.dep_exchange.specs.Machine.{operation_of, step}
 
 -- a step: under which configuration, in which state, of which item, and when
 pub record AnyStep : Type 0 where

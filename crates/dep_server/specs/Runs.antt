@@ -4,7 +4,7 @@ use Rattle.dep_types.specs.State.{State}
 use Rattle.dep_types.specs.declared.config.Config.{Config}
 use Rattle.dep_message.specs.declared.message.Message.{Message}
 use Rattle.dep_message.specs.Stream.{Request}
-use Rattle.dep_hub.specs.Records.{Record, World, Run}
+use Rattle.dep_exchange.specs.Records.{Record, World, Run}
 use Rattle.dep_connection.specs.Turns.{Turn, Exchanges, with_opened}
 use Rattle.dep_server.specs.Moves.{Move, Made, moves_of, state_by}
 use Rattle.dep_server.specs.Requests.{AnyRequest}

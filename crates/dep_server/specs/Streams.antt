@@ -4,7 +4,7 @@ use Rattle.std.specs.List.{flat_map, fold}
 use Rattle.std.specs.Option.{option_map, option_map_or}
 use Rattle.dep_message.specs.Places.{Place}
 use Rattle.dep_message.specs.Stream.{Item, Spells}
-use Rattle.dep_hub.specs.Records.{Event, Connect, Arrive, Close, Stop, Record}
+use Rattle.dep_exchange.specs.Records.{Event, Connect, Arrive, Close, Stop, Record}
 use Rattle.dep_server.specs.Calm.{SteppedItem, AnyCalmRun}
 
 -- the streams of a number: one for each time that it was opened, the last of them open still or not

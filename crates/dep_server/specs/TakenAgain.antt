@@ -6,9 +6,9 @@ use Rattle.dep_types.specs.declared.config.Config.{Config}
 use Rattle.dep_message.specs.Places.{Place}
 use Rattle.dep_message.specs.Stream.{Item, Request}
 use Rattle.dep_message.specs.declared.message.Message.{Message}
-use Rattle.dep_hub.specs.Machine.{state_after, Serves, serves_all, step_fails, gives_up}
-use Rattle.dep_hub.specs.Records.{Event, Record, Line, World, Arrives, at_live, at_shut_line, Happens, connects, closes, arrives, unknown, Run, begins, goes_on, stops, breaks}
-use Rattle.dep_hub.specs.declared.arrived.Arrived.{Arrived}
+use Rattle.dep_exchange.specs.Machine.{state_after, Serves, serves_all, step_fails, gives_up}
+use Rattle.dep_exchange.specs.Records.{Event, Record, Line, World, Arrives, at_live, at_shut_line, Happens, connects, closes, arrives, unknown, Run, begins, goes_on, stops, breaks}
+use Rattle.dep_exchange.specs.declared.arrived.Arrived.{Arrived}
 use Rattle.dep_server.specs.Acknowledged.{WasAt, HasStatus}
 use Rattle.dep_server.specs.Requests.{AnyRequest, reply_to, IsPostAccepted, IsAcceptedSegment}
 use Rattle.dep_server.specs.Runs.{AnyRun, request_at}

@@ -1,7 +1,7 @@
 -- Connections that were served, as the laws speak of them.
 use Rattle.std.specs.Prelude.{ℕ, Bool, List, Option}
 use Rattle.dep_types.specs.declared.config.Config.{Config}
-use Rattle.dep_hub.specs.Records.{World}
+use Rattle.dep_exchange.specs.Records.{World}
 use Rattle.dep_connection.specs.Turns.{Turn, Exchanges, EndsAs}
 use Rattle.dep_connection.specs.declared.connection.Served.{Served}
 

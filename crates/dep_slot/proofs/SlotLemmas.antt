@@ -7,7 +7,7 @@ use Rattle.std.proofs.KnownBytes.{Keeps-refl, Appends-kept, Keeps-trans, append_
 use Rattle.std.specs.Io.KnownBytes.{Appends, Keeps, Consumes, IsAtEnd, append_known}
 use Rattle.dep_types.specs.Conditions.{Condition, HasCleanDisk}
 use Rattle.dep_hub.specs.Holding.{AnswersOver, ComesToNext, OffersTo, Outcome}
-use Rattle.dep_hub.specs.Owing.{with_more}
+use Rattle.dep_exchange.specs.Owing.{with_more}
 use Rattle.dep_hub.specs.Claims.{is_content}
 use Rattle.dep_hub.specs.Representing.{KeepsStore}
 use Rattle.dep_hub.specs.RepresentsOwing.{KeepsBack, NextIsFree, NextIsPrepared, RepliesOver, SendsOn as HubSends, behind_at}
@@ -15,10 +15,10 @@ use Rattle.dep_hub.specs.declared.rest.Behind.TheVariants.{Broken}
 use Rattle.dep_hub.specs.declared.sent_on.SentOn.{SentOn}
 use Rattle.dep_hub.specs.Numbers.{most_read}
 use Rattle.dep_hub.specs.declared.hub.Hub.{Hub}
-use Rattle.dep_hub.specs.declared.arrived.Arrived.{Arrived}
-use Rattle.dep_hub.specs.declared.arrived.Arrived.TheVariants as came
-use Rattle.dep_hub.specs.declared.next.Next.{Next}
-use Rattle.dep_hub.specs.declared.next.Next.TheVariants.{NoSuch}
+use Rattle.dep_exchange.specs.declared.arrived.Arrived.{Arrived}
+use Rattle.dep_exchange.specs.declared.arrived.Arrived.TheVariants as came
+use Rattle.dep_exchange.specs.declared.next.Next.{Next}
+use Rattle.dep_exchange.specs.declared.next.Next.TheVariants.{NoSuch}
 use Rattle.dep_outbox.specs.Sockets.{Receives, after_receive}
 use Rattle.dep_outbox.specs.declared.socket.Halts.{Halts}
 use Rattle.dep_outbox.specs.declared.socket.Received.{Received}

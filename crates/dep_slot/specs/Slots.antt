@@ -2,21 +2,22 @@
 use Rattle.std.specs.Prelude.{◌≡◌, ◌≢◌, ◌⊎◌, ◌<◌, ◌≤◌, ◌+◌, ◌-◌, ◌^◌, min, nat_lt, ℕ, Bool, List, ◌++◌, length, Option, None, if◌then◌else◌, true, false}
 use Rattle.std.specs.Io.KnownBytes.{Appends, Keeps, Consumes, IsAtEnd}
 use Rattle.dep_types.specs.Conditions.{Condition}
-use Rattle.dep_hub.specs.Records.{Line}
+use Rattle.dep_exchange.specs.Records.{Line}
 use Rattle.dep_hub.specs.Numbers.{most_read}
 use Rattle.dep_hub.specs.Representing.{IsClean, IsHonest, intake_of}
 use Rattle.dep_hub.specs.Holding.{KeepsHolding, AnswersOver, IsNext, IsRefused, arrived_by, with_held}
-use Rattle.dep_hub.specs.Owing.{bytes_later, with_more}
+use Rattle.dep_exchange.specs.Owing.{with_more}
+use Rattle.dep_hub.specs.Owed.{bytes_later}
 use Rattle.dep_hub.specs.Claims.{is_content}
 use Rattle.dep_hub.specs.RepresentsOwing.{BeginsUnawaited, KeepsBack, NextIsFree, NextIsPrepared, OthersStay, Owes, SendsOn as HubSends, behind_at, is_unsent}
 use Rattle.dep_hub.specs.declared.rest.Behind.TheVariants.{Broken}
 use Rattle.dep_hub.specs.declared.sent_on.SentOn.{SentOn}
 use Rattle.dep_hub.specs.declared.sent_on.SentOn.TheVariants.{Part, All, Broken as BrokenOff}
 use Rattle.dep_hub.specs.declared.hub.Hub.{Hub}
-use Rattle.dep_hub.specs.declared.arrived.Arrived.{Arrived}
-use Rattle.dep_hub.specs.declared.arrived.Arrived.TheVariants as came
-use Rattle.dep_hub.specs.declared.next.Next.{Next}
-use Rattle.dep_hub.specs.declared.next.Next.TheVariants.{More, Waiting, NoSuch}
+use Rattle.dep_exchange.specs.declared.arrived.Arrived.{Arrived}
+use Rattle.dep_exchange.specs.declared.arrived.Arrived.TheVariants as came
+use Rattle.dep_exchange.specs.declared.next.Next.{Next}
+use Rattle.dep_exchange.specs.declared.next.Next.TheVariants.{More, Waiting, NoSuch}
 use Rattle.dep_outbox.specs.Wires.{reported, owed, owed_count}
 use Rattle.dep_slot.specs.declared.slot.Slot.{Slot}
 use Rattle.dep_slot.specs.declared.connection_state.Phase.{Phase}

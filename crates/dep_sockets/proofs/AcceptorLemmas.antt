@@ -3,7 +3,7 @@ use Rattle.std.proofs.Common.{◌≡◌, ℕ, Bool, true, false, List, [], appen
 use Rattle.std.specs.Prelude.{Option}
 use Rattle.dep_types.specs.State.{State}
 use Rattle.dep_types.specs.Conditions.{Condition}
-use Rattle.dep_hub.specs.Records.{World, Record}
+use Rattle.dep_exchange.specs.Records.{World, Record}
 use Rattle.dep_hub.specs.Representing.{RepresentsAt, RepresentsAfter, IsClean}
 use Rattle.dep_hub.specs.Holding.{RepresentsHolding, RepresentsHoldingAfter}
 use Rattle.dep_hub.specs.declared.hub.Hub.{Hub}
@@ -22,7 +22,7 @@ use Rattle.dep_host.specs.Meeting.{Met}
 use Rattle.dep_slot.specs.Notes.{Note}
 use Rattle.dep_host.specs.declared.host.Host.{Host}
 use Rattle.dep_slot.specs.declared.limits.Limits.{Limits}
-use Rattle.dep_hub.specs.ArchiveCalls.{CallLog}
+use Rattle.dep_exchange.specs.ArchiveCalls.{CallLog}
 use Rattle.dep_sockets.specs.Acceptors.{AcceptorState, ServesFrom, EndsHub, served, shut, stopped, broken_off, spent, not_begun, not_let_in, WentOn}
 
 module _ {A R K S : Type 0} (condition : A → Condition) (unread : R → Option (List ℕ)) (taken : K → Option (List ℕ)) (held : S → Option (List ℕ)) where

@@ -2,8 +2,8 @@
 use Rattle.std.specs.Prelude.{◌≡◌, ℕ, Bool, true, false, List, [], Option, IsNone, IsTrue}
 use Rattle.dep_types.specs.State.{State}
 use Rattle.dep_types.specs.Conditions.{Condition}
-use Rattle.dep_hub.specs.Records.{Record}
-use Rattle.dep_hub.specs.ArchiveCalls.{CallLog}
+use Rattle.dep_exchange.specs.Records.{Record}
+use Rattle.dep_exchange.specs.ArchiveCalls.{CallLog}
 use Rattle.dep_hub.specs.Representing.{RepresentsAfter, IsClean, IsHonest}
 use Rattle.dep_hub.specs.declared.hub.Hub.{Hub}
 use Rattle.dep_slot.specs.Causes.{Causes}

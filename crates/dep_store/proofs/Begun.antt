@@ -7,7 +7,7 @@ use Rattle.sqlite.specs.State.{HasCleanDisk}
 use Rattle.dep_types.specs.State.{State, File, file_at}
 use Rattle.dep_types.specs.declared.stream_fault.StreamFault.{StreamFault}
 use Rattle.dep_types.specs.declared.stream_fault.StreamFault.TheVariants.{Store as StoreFails}
-use Rattle.dep_hub.specs.Archives.{CountsFailures}
+use Rattle.dep_exchange.specs.Archives.{CountsFailures}
 use Rattle.dep_answers.specs.declared.performed.StoredFile.{StoredFile}
 use Rattle.dep_tables.specs.Tables.{Tables, tables_of}
 use Rattle.dep_row_maps.specs.TablesAre.{TablesAre}
@@ -15,7 +15,7 @@ use Rattle.dep_requests.specs.declared.caching.Cache.{Cache}
 use Rattle.dep_schema.specs.States.{Represents}
 use Rattle.dep_schema.specs.Transactions.{IsBackAt, IsRestored}
 use Rattle.dep_schema.proofs.Transacting.{IsSettled, stood_before}
-use Rattle.dep_hub.specs.Owing.{HasBehind}
+use Rattle.dep_exchange.specs.Owing.{HasBehind}
 use Rattle.dep_store.specs.Caching.{IsCached, IsOfOpen, IsKnownFile}
 use Rattle.dep_store.specs.SendingOn.{BeginsIfOpen, FindsSize, SendsOn}
 use Rattle.dep_store.proofs.Contents.{content_same}

@@ -12,7 +12,7 @@ use Rattle.dep_row_maps.proofs.Whole.{state_written}
 use Rattle.dep_schema.specs.States.{TablesRepresent}
 use Rattle.dep_schema.specs.Transactions.{Transacts, IsRestored}
 use Rattle.dep_schema.proofs.Transacting.{IsSettled, after_back}
-use Rattle.dep_hub.specs.Archives.{Always}
+use Rattle.dep_exchange.specs.Archives.{Always}
 use Rattle.dep_store.specs.Copying.{CopiesLog, RewritesClock}
 use Rattle.dep_store.specs.Shut.{FailsIfShut}
 use Rattle.dep_store.proofs.ShutLemmas.{was_open_then}

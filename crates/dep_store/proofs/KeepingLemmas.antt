@@ -9,7 +9,7 @@ use Rattle.sqlite_trees.specs.declared.error.StoreError.{StoreError}
 use Rattle.sqlite_trees.specs.declared.error.StoreError.TheVariants.{OutOfMemory, Io, Corrupt, Full, Broken, Unstorable}
 use Rattle.dep_types.specs.declared.store_fault.StoreFault.{StoreFault}
 use Rattle.dep_tables.specs.Faults.{fault_for}
-use Rattle.dep_hub.specs.ArchiveCalls.{FailsToReport}
+use Rattle.dep_exchange.specs.ArchiveCalls.{FailsToReport}
 use Rattle.dep_types.specs.State.{State}
 use Rattle.dep_decisions.specs.Laws.{KeepsSegments}
 use Rattle.dep_staging.specs.HashedAhead.{AreRunning, IsRunning}
@@ -19,8 +19,8 @@ use Rattle.dep_staging.proofs.AheadLemmas.{still_hashed}
 use Rattle.dep_schema.specs.Performing.{KeepsRunning}
 use Rattle.dep_schema.specs.States.{Represents}
 use Rattle.dep_types.specs.Conditions.{Condition, Represents as RepresentsAs, HasCleanDisk}
-use Rattle.dep_hub.specs.Archives.{TriesTo, Always, KeepsState, KeepsAll, KeepsEachState, FailsIfShut}
-use Rattle.dep_hub.proofs.Leaving.{Settles, leaves_before, leaves_once}
+use Rattle.dep_exchange.specs.Archives.{TriesTo, Always, KeepsState, KeepsAll, KeepsEachState, FailsIfShut}
+use Rattle.dep_exchange.proofs.Leaving.{Settles, leaves_before, leaves_once}
 use Rattle.dep_store.specs.Archive as store
 use Rattle.dep_store.specs.Shut as db_shut
 use Rattle.dep_store.specs.HashingStores.{Keeps, shown_by, reported_by}

@@ -16,8 +16,8 @@ use Rattle.dep_staging.specs.NextBytes.{IsNextIn}
 use Rattle.dep_schema.specs.States.{Represents}
 use Rattle.dep_schema.specs.Transactions.{IsRestored}
 use Rattle.dep_schema.proofs.Transacting.{IsSettled, back_then, leaves_still, none_then}
-use Rattle.dep_hub.specs.Archives.{KeepsState}
-use Rattle.dep_hub.specs.Owing.{HasBehind, IsPrefixBehind, IsSentOn, StreamsOn, TakesFew}
+use Rattle.dep_exchange.specs.Archives.{KeepsState}
+use Rattle.dep_exchange.specs.Owing.{HasBehind, IsPrefixBehind, IsSentOn, StreamsOn, TakesFew}
 use Rattle.dep_store.specs.Archive.{shown_by}
 use Rattle.dep_store.specs.Caching.{HasSize}
 use Rattle.dep_store.specs.SendingOn.{AreFew, GivesNext}

@@ -5,8 +5,8 @@ use Rattle.dep_types.specs.State.{State}
 use Rattle.dep_schema.specs.States.{Represents}
 use Rattle.dep_schema.proofs.Transacting.{kept_alone}
 use Rattle.dep_bag.specs.Source.{StandsStill}
-use Rattle.dep_hub.specs.Archives.{Reports}
-use Rattle.dep_hub.proofs.Leaving.{leaves_once}
+use Rattle.dep_exchange.specs.Archives.{Reports}
+use Rattle.dep_exchange.proofs.Leaving.{leaves_once}
 use Rattle.dep_store.specs.Archive.{shown_by}
 
 either_way : {A E : Type 0} (r : Result A E) (P : Type 0) → OnOk r P → OnErr r P → P

@@ -17,7 +17,7 @@ use Rattle.dep_schema.specs.OpenTables.{Holds, StaysFile}
 use Rattle.dep_schema.specs.States.{TablesRepresent, Represents, Leaves}
 use Rattle.dep_schema.specs.Transactions.{Transacts, OnlyReports, OverStates, IsBackAt, IsGivenBack, IsRestored}
 use Rattle.dep_schema.proofs.Transacting.{IsSettled, IsOver, ok_over_states, err_state, stop_over_states, ok_reports, still_reports, left_reports, leaves_still, leaves_as_was}
-use Rattle.dep_hub.specs.Archives.{TriesTo, Ticks, Reports, KeepsState, KeepsAll, Always, CountsFailures}
+use Rattle.dep_exchange.specs.Archives.{TriesTo, Ticks, Reports, KeepsState, KeepsAll, Always, CountsFailures}
 use Rattle.dep_store.specs.Archive.{shown_by}
 use Rattle.dep_store.specs.Shut.{FailsIfShut, SendsFile}
 use Rattle.dep_schema.specs.Performing.{KeepsRunning}

@@ -10,7 +10,7 @@ use Rattle.dep_types.specs.declared.refusal.Refusal.{Refusal}
 use Rattle.dep_staging.specs.HashedAhead.{AreRunning}
 use Rattle.dep_staging.specs.declared.running.RunningHashes.{RunningHashes}
 use Rattle.dep_schema.specs.States.{Represents, IsLeftAs}
-use Rattle.dep_hub.specs.ArchiveCalls.{CallLog}
+use Rattle.dep_exchange.specs.ArchiveCalls.{CallLog}
 use Rattle.dep_store.specs.LogCopies.{has_call}
 use Rattle.dep_store.specs.declared.archive.HashingStore.{HashingStore}
 

@@ -10,8 +10,8 @@ use Rattle.dep_types.specs.declared.stream_fault.StreamFault.TheVariants.{Writer
 use Rattle.dep_answers.specs.declared.performed.StoredFile.{StoredFile}
 use Rattle.dep_schema.specs.States.{Represents}
 use Rattle.dep_schema.specs.Transactions.{FindsOpen}
-use Rattle.dep_hub.specs.Archives.{KeepsState, CountsFailures}
-use Rattle.dep_hub.specs.Owing.{Begins, StreamsOn, TakesFew, step_bytes}
+use Rattle.dep_exchange.specs.Archives.{KeepsState, CountsFailures}
+use Rattle.dep_exchange.specs.Owing.{Begins, StreamsOn, TakesFew, step_bytes}
 use Rattle.dep_store.specs.Archive.{shown_by}
 use Rattle.dep_store.specs.Caching.{HasSize}
 use Rattle.dep_store.specs.Shut.{StaysOpen, FailsIfShut}

@@ -11,8 +11,8 @@ use Rattle.dep_types.specs.declared.stream_fault.StreamFault.{StreamFault}
 use Rattle.dep_types.specs.declared.config.Config.{Config}
 use Rattle.dep_tables.specs.Faults.{fault_for}
 use Rattle.dep_schema.specs.Transactions.{IsBackAt, IsRestored}
-use Rattle.dep_hub.specs.Archives.{Ticks, Streams, KeepsState, CountsFailures}
-use Rattle.dep_hub.specs.Shut.{ReportsOpen}
+use Rattle.dep_exchange.specs.Archives.{Ticks, Streams, KeepsState, CountsFailures}
+use Rattle.dep_exchange.specs.Shut.{ReportsOpen}
 use Rattle.dep_store.specs.Archive.{shown_by}
 
 -- where the store was shut, and the disk has told no lie that was taken as true, a crash leaves

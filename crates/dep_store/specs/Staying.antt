@@ -4,7 +4,7 @@ use Rattle.sqlite.specs.State as db
 use Rattle.sqlite.specs.Tree.{Trees}
 use Rattle.dep_types.specs.State.{State}
 use Rattle.dep_tables.specs.Tables.{Tables}
-use Rattle.dep_hub.specs.Archives.{KeepsAll}
+use Rattle.dep_exchange.specs.Archives.{KeepsAll}
 use Rattle.dep_staging.specs.declared.running.RunningHashes.{RunningHashes}
 use Rattle.dep_schema.specs.OpenTables.{Holds, StaysFile}
 use Rattle.dep_schema.specs.Performing.{KeepsRunning}

@@ -5,8 +5,8 @@ ghost use Rattle.dep_store.specs.LogCopies.{writes_much, after_call, has_call};
 
 use dep_answers::Performed;
 use dep_decisions::Operation;
+use dep_exchange::ROUNDS_TO_REPLY;
 use dep_fields::{Field, Kind};
-use dep_hub::ROUNDS_TO_REPLY;
 
 /// A content of so many octets makes the log long: it fills 1,024 of its pages, and a log of 1,000 is copied.
 const LONG_CONTENT: usize = 4_194_304;

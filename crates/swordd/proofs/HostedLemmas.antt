@@ -16,8 +16,8 @@ use Rattle.dep_commands.specs.Starting.{IsGivenOrStore, IsOpened, IsStore, Openi
 use Rattle.dep_commands.specs.declared.starting.StartFault.{StartFault}
 use Rattle.dep_commands.specs.declared.starting.StartFault.TheVariants as fault
 use Rattle.dep_hub.specs.declared.faults.HubFault.TheVariants as refused_by
-use Rattle.dep_hub.specs.Records.{Record, Run, stops, stopped, first_world}
-use Rattle.dep_hub.specs.Records as records_of
+use Rattle.dep_exchange.specs.Records.{Record, Run, stops, stopped, first_world}
+use Rattle.dep_exchange.specs.Records as records_of
 use Rattle.dep_hub.specs.declared.hub.Hub.{Hub}
 use Rattle.dep_slot.specs.Causes.{Causes}
 use Rattle.dep_host.specs.Hosting.{HostAction}

@@ -15,7 +15,7 @@ use Rattle.dep_reserve.specs.declared.reserved_archive.ReservedArchive.{Reserved
 use Rattle.swordd.specs.declared.logged_reserve.LoggedReserve.{LoggedReserve}
 use Rattle.dep_commands.specs.Starting.{IsOpened, OpeningLeaves}
 use Rattle.dep_commands.specs.Reserved.{call_log_of, condition_of}
-use Rattle.dep_hub.specs.Records.{World, Record, Run, first_world, stopped}
+use Rattle.dep_exchange.specs.Records.{World, Record, Run, first_world, stopped}
 use Rattle.dep_hub.specs.declared.hub.Hub.{Hub}
 use Rattle.dep_slot.specs.Causes.{Causes}
 use Rattle.dep_host.specs.Hosting.{HostAction}

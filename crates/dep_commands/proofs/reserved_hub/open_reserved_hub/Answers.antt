@@ -7,7 +7,7 @@ use Rattle.dep_store.specs.HashingStores.{Keeps}
 use Rattle.dep_store.specs.Migrating.{OpenLeaves}
 use Rattle.dep_schema.specs.States.{Represents}
 use Rattle.dep_schema.specs.declared.opening.OpenFault.{OpenFault}
-use Rattle.dep_hub.specs.Records.{first_world}
+use Rattle.dep_exchange.specs.Records.{first_world}
 use Rattle.dep_hub.specs.declared.faults.HubFault.{HubFault}
 use Rattle.dep_reserve.specs.declared.reserved_archive.ReservedArchive.{ReservedArchive}
 use Rattle.dep_store.specs.declared.archive.HashingStore.{HashingStore}

@@ -1,7 +1,7 @@
 use Rattle.std.specs.Prelude.{IsSome, ◌≡◌, ◌⊎◌, false}
 use Rattle.dep_types.specs.declared.inlet.LastRead.TheVariants.{Bytes}
 use Rattle.dep_hub.specs.Representing.{intake_of}
-use Rattle.dep_hub.specs.declared.arrived.Arrived.TheVariants.{Open as StaysOpen}
+use Rattle.dep_exchange.specs.declared.arrived.Arrived.TheVariants.{Open as StaysOpen}
 use Rattle.dep_connection.specs.Turns.{reads_after}
 use Rattle.dep_connection.specs.Conversation.{Talk, MayShow, standing}
 use Rattle.dep_connection.specs.Flushing.{IsFlushed}

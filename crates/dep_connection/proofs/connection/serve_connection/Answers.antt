@@ -4,7 +4,7 @@ use Rattle.dep_types.specs.Conditions.{HasCleanDisk}
 use Rattle.dep_connection.specs.Conversation.{MayShow, outflow, wire, standing}
 use Rattle.dep_hub.specs.Representing.{store_of}
 use Rattle.dep_hub.proofs.HubLemmas.{same_represents}
-use Rattle.dep_hub.proofs.Leaving.{stays_as}
+use Rattle.dep_exchange.proofs.Leaving.{stays_as}
 use Rattle.dep_connection.proofs.TalkLemmas.{serves_whole, unserved, next_served, clocks_keep}
 use Rattle.dep_connection.proofs.connection.serve_connection.Goals as goal
 use Rattle.dep_connection.proofs.connection.serve_connection.Given as given

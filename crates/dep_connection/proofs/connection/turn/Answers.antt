@@ -2,7 +2,7 @@ use Rattle.std.proofs.Common.{inl, inr, IsSome, ℕ, List, Option, refl, sym, ap
 use Rattle.std.proofs.lemmas.List.{with_items_is}
 use Rattle.dep_message.specs.Places.{Reading}
 use Rattle.dep_connection.specs.Conversation.{MayShow, standing}
-use Rattle.dep_hub.specs.declared.arrived.Arrived.TheVariants.{Open as StaysOpen, Closed as HasClosed, Cut}
+use Rattle.dep_exchange.specs.declared.arrived.Arrived.TheVariants.{Open as StaysOpen, Closed as HasClosed, Cut}
 use Rattle.dep_connection.proofs.TurnLemmas.{has_room, some_room, read_whole, read_within, none_read, gives_bytes, gives_none, goes_then, goes_ahead, arrives_flushed, arrived_there, one_turn, no_turn}
 use Rattle.dep_hub.proofs.HubLemmas.{none_there}
 use Rattle.dep_connection.proofs.connection.turn.Goals as goal

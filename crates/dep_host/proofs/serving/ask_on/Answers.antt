@@ -1,5 +1,5 @@
 use Rattle.std.proofs.Common.{Bool, sym, subst, ◌∙◌}
-use Rattle.dep_hub.specs.ArchiveCalls.{WorkedAhead, Runs}
+use Rattle.dep_exchange.specs.ArchiveCalls.{WorkedAhead, Runs}
 use Rattle.dep_host.proofs.serving.ask_on.Goals as goal
 
 pub returns-clause-asks : goal.returns-clause-asks

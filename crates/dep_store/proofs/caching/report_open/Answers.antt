@@ -3,7 +3,7 @@ use Rattle.std.proofs.lemmas.Result.{IfOk-weaker, IfErr-weaker}
 use Rattle.sqlite.specs.Held.{state}
 use Rattle.sqlite.proofs.StateLemmas.{clean_if_open}
 use Rattle.dep_types.specs.declared.store_fault.StoreFault.{StoreFault}
-use Rattle.dep_hub.specs.Shut.{ReportsOpen}
+use Rattle.dep_exchange.specs.Shut.{ReportsOpen}
 use Rattle.dep_store.specs.Archive.{shown_by}
 use Rattle.dep_store.proofs.ShutLemmas.{closed_if_shut, fails_alone}
 use Rattle.dep_store.proofs.caching.report_open.Goals as goal

@@ -1,6 +1,6 @@
 use Rattle.std.proofs.Common.{◌≡◌, None, refl, sym, subst, [], ◌∷◌, inr, ◌∙◌, arith, rules}
 use Rattle.std.specs.Io.KnownBytes.{IsAtEnd}
-use Rattle.dep_hub.specs.Records.{Live}
+use Rattle.dep_exchange.specs.Records.{Live}
 use Rattle.dep_hub.specs.Holding.{LineTransition}
 use Rattle.dep_outbox.specs.Wires.{reported}
 use Rattle.dep_slot.specs.Notes.{Grows, LetIn}

@@ -1,6 +1,6 @@
 use Rattle.std.proofs.Common.{◌≡◌, ◌==◌, ℕ, if◌then◌else◌, [], None, refl, sym, ap, subst, set, ◌∙◌}
 use Rattle.std.proofs.lemmas.List.{get_or-set_same, get_or-set_other}
-use Rattle.dep_hub.specs.Records.{Absent}
+use Rattle.dep_exchange.specs.Records.{Absent}
 use Rattle.dep_hub.specs.Holding.{LineTransition, with_held}
 use Rattle.dep_hub.specs.RepresentsOwing.{behind_at}
 use Rattle.dep_hub.specs.declared.rest.Behind.TheVariants.{Nothing}

@@ -1,6 +1,6 @@
 use Rattle.std.proofs.Common.{[], false, true, Ok, Err, inl, inr, refl, sym, ◌∙◌, rules}
 use Rattle.std.proofs.lemmas.List.Elements.{Contains-push}
-use Rattle.dep_hub.specs.Archives.{KeepsAll}
+use Rattle.dep_exchange.specs.Archives.{KeepsAll}
 use Rattle.dep_host.proofs.HostLemmas.{asked_alone, represents_still, reported_shut, reported_open, reported_as}
 use Rattle.dep_host.proofs.host.Host.is_open.Goals as goal
 

@@ -1,14 +1,15 @@
 use Rattle.std.proofs.Common.{◌≡◌, Bool, false, set, if◌then◌else◌, refl, sym, ap, subst, ◌∙◌}
 use Rattle.std.proofs.lemmas.Bool.{eq-eqb}
-use Rattle.dep_hub.specs.Owing.{IsOwed, with_more, bytes_later}
+use Rattle.dep_exchange.specs.Owing.{with_more}
+use Rattle.dep_hub.specs.Owed.{IsOwed, bytes_later}
 use Rattle.dep_hub.specs.Claims.{is_any_pending, is_any_waiting, is_awaited_by, is_pending, is_waiting}
 use Rattle.dep_hub.specs.RepresentsOwing.{behind_at, is_looked_at}
 use Rattle.dep_hub.specs.declared.rest.Behind.{Behind}
-use Rattle.dep_hub.specs.Sending.{outside}
+use Rattle.dep_exchange.specs.Sending.{outside}
 use Rattle.dep_hub.proofs.ConnectionLemmas.{index_some, ascends_set}
 use Rattle.dep_hub.proofs.HubLemmas.{stays_there}
 use Rattle.dep_hub.proofs.HoldingLemmas.{comes_next}
-use Rattle.dep_hub.proofs.NextLemmas.{next_there, next_passes}
+use Rattle.dep_exchange.proofs.NextLemmas.{next_there, next_passes}
 use Rattle.dep_hub.proofs.BehindLemmas.{behinds_are, others_are, owed_at, owed_later}
 use Rattle.dep_hub.proofs.PendingLemmas.{any_unset, not_broken, not_looked, not_waiting}
 use Rattle.dep_hub.proofs.SourceLemmas.{begins_unawaited}

@@ -1,7 +1,7 @@
 use Rattle.std.proofs.Common.{◌≡◌, ◌==◌, ℕ, Bool, if◌then◌else◌, refl, sym, ap, subst, ◌∙◌, List, [], None}
 use Rattle.std.proofs.lemmas.Bool.{eq-eqb}
 use Rattle.dep_hub.specs.Numbers.{index_of, Ascends}
-use Rattle.dep_hub.specs.Records.{Close}
+use Rattle.dep_exchange.specs.Records.{Close}
 use Rattle.dep_hub.specs.Representing.{intake_of}
 use Rattle.dep_hub.specs.declared.connections.Connection.{Connection}
 use Rattle.dep_hub.proofs.ConnectionLemmas.{index_none, intake_remove, ascends_remove}

@@ -3,7 +3,7 @@ use Rattle.std.specs.Prelude.{IsSome}
 use Rattle.dep_types.specs.declared.config.Config.{Config}
 use Rattle.dep_message.specs.Places.{Open}
 use Rattle.dep_hub.specs.Numbers.{Ascends}
-use Rattle.dep_hub.specs.Records.{Connect}
+use Rattle.dep_exchange.specs.Records.{Connect}
 use Rattle.dep_hub.specs.Representing.{intake_of}
 use Rattle.dep_hub.specs.declared.connections.Connection.{Connection}
 use Rattle.dep_hub.proofs.ConnectionLemmas.{absent_above, ascends_push, pushed_there}

@@ -1,7 +1,7 @@
 use Rattle.std.proofs.Common.{sym, ap, subst, List, [], arith}
 use Rattle.dep_hub.specs.Numbers.{Ascends}
 use Rattle.dep_types.specs.declared.config.Config.{Config}
-use Rattle.dep_hub.specs.Records.{Line, Run, begins, first_world}
+use Rattle.dep_exchange.specs.Records.{Line, Run, begins, first_world}
 use Rattle.dep_hub.specs.Representing.{IsKeptAs, intake_of}
 use Rattle.dep_hub.specs.declared.connections.Connection.{Connection}
 use Rattle.dep_hub.specs.Claims.{is_any_pending, is_any_waiting}

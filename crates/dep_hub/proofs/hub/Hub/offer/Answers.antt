@@ -5,8 +5,8 @@ use Rattle.dep_hub.specs.Numbers.{index_of}
 use Rattle.dep_hub.proofs.ConnectionLemmas.{index_none, ascends_set}
 use Rattle.dep_hub.proofs.HubLemmas.{stays_there, none_there, not_absent, same_hub}
 use Rattle.dep_hub.proofs.HoldingLemmas.{held_fed, refuses}
-use Rattle.dep_hub.proofs.NextLemmas.{open_there, runs_out}
-use Rattle.dep_hub.proofs.ShutLemmas.{there_sent}
+use Rattle.dep_exchange.proofs.NextLemmas.{open_there, runs_out}
+use Rattle.dep_exchange.proofs.ShutLemmas.{there_sent}
 use Rattle.dep_hub.proofs.BehindLemmas.{behind_as_was}
 use Rattle.dep_hub.proofs.PendingLemmas.{any_set}
 use Rattle.dep_hub.proofs.hub.Hub.offer.Goals as goal

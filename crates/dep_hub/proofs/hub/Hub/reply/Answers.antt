@@ -2,7 +2,7 @@ use Rattle.std.proofs.Common.{None, [], refl, sym, ap, subst, ◌∙◌}
 use Rattle.std.proofs.KnownBytes.{Appends-nil, Keeps-refl}
 use Rattle.dep_hub.specs.Claims.{is_awaited_by}
 use Rattle.dep_hub.specs.Numbers.{index_of}
-use Rattle.dep_hub.specs.Owing.{IsOwed}
+use Rattle.dep_hub.specs.Owed.{IsOwed}
 use Rattle.dep_hub.specs.Preparing.{is_preparing}
 use Rattle.dep_hub.specs.RepresentsOwing.{is_looked_at, is_unsent}
 use Rattle.dep_hub.specs.declared.rest.Behind.{Behind}

@@ -1,13 +1,13 @@
 use Rattle.std.proofs.Common.{refl, sym, ap, subst, ◌∙◌}
 use Rattle.dep_hub.specs.Numbers.{index_of}
-use Rattle.dep_hub.specs.Owing.{IsOwed}
+use Rattle.dep_hub.specs.Owed.{IsOwed}
 use Rattle.dep_hub.specs.Claims.{is_any_pending, is_content, is_pending, is_waiting}
 use Rattle.dep_hub.proofs.PendingLemmas.{any_set}
 use Rattle.dep_hub.specs.RepresentsOwing.{behind_at}
 use Rattle.dep_hub.specs.declared.rest.Behind.{Behind}
 use Rattle.dep_hub.specs.declared.rest.Behind.TheVariants.{Nothing, Content, Broken}
 use Rattle.dep_hub.specs.declared.sent_on.SentOn.TheVariants.{Part, All, Broken as BrokenOff}
-use Rattle.dep_hub.proofs.Leaving.{leaves_once}
+use Rattle.dep_exchange.proofs.Leaving.{leaves_once}
 use Rattle.dep_hub.proofs.ConnectionLemmas.{ascends_set}
 use Rattle.dep_hub.proofs.BehindLemmas.{all_sent, behind_none, behind_some, behinds_are, behinds_stay, intakes_stay, nothing_sent, paid_all, paid_broken, paid_part, sends_none, sends_nothing, sends_on}
 use Rattle.dep_hub.proofs.hub.Hub.send_on.Goals as goal

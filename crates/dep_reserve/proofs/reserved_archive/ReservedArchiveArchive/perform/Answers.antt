@@ -3,7 +3,7 @@ use Rattle.dep_types.specs.declared.store_fault.StoreFault.TheVariants.{Store}
 use Rattle.dep_fields.specs.Fit.{AreFit}
 use Rattle.dep_answers.specs.Performing.{IsReady}
 use Rattle.dep_answers.specs.Steps.{operation_step}
-use Rattle.dep_hub.specs.Archives.{MakesStep}
+use Rattle.dep_exchange.specs.Archives.{MakesStep}
 use Rattle.dep_reserve.proofs.ReservedLemmas.{fails_unasked}
 use Rattle.dep_reserve.proofs.reserved_archive.ReservedArchiveArchive.perform.Goals as goal
 

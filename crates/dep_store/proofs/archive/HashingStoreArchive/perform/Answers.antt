@@ -6,7 +6,7 @@ use Rattle.dep_answers.specs.declared.performed.Performed.{Performed}
 use Rattle.dep_answers.specs.Steps.{operation_step}
 use Rattle.dep_answers.proofs.SegmentsStay.{step_keeps_segments}
 use Rattle.dep_fields.specs.Fit.{AreFit}
-use Rattle.dep_hub.specs.Archives.{MakesStep, FallsDue, FailsIfShut}
+use Rattle.dep_exchange.specs.Archives.{MakesStep, FallsDue, FailsIfShut}
 use Rattle.dep_store.specs.HashingStores.{shown_by}
 use Rattle.dep_store.specs.LogCopies.{has_call}
 use Rattle.dep_store.specs.declared.log_copy.LogCopy.{LogCopy}

@@ -2,7 +2,7 @@ use Rattle.std.proofs.Common.{◌≡◌}
 use Rattle.sqlite.specs.Held.{state}
 use Rattle.dep_types.specs.State.{tick}
 use Rattle.dep_decisions.proofs.SegmentsStay.{tick_keeps_segments}
-use Rattle.dep_hub.specs.Archives.{Always}
+use Rattle.dep_exchange.specs.Archives.{Always}
 use Rattle.dep_store.proofs.KeepingLemmas.{are_running_still, tries_hashed, shut_hashed}
 use Rattle.dep_store.proofs.archive.HashingStoreArchive.tick.Goals as goal
 

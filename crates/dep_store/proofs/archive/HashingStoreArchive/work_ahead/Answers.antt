@@ -2,7 +2,7 @@ use Rattle.std.proofs.Common.{sym, subst, ◌∙◌}
 use Rattle.sqlite.specs.Held.{state}
 use Rattle.sqlite.proofs.StateLemmas.{clean_if_open}
 use Rattle.dep_schema.proofs.Transacting.{leaves_as_was}
-use Rattle.dep_hub.specs.Archives.{Always, CommitsIfDue}
+use Rattle.dep_exchange.specs.Archives.{Always, CommitsIfDue}
 use Rattle.dep_store.specs.HashingStores.{shown_by}
 use Rattle.dep_store.specs.LogCopies.{has_call}
 use Rattle.dep_store.specs.declared.log_copy.LogCopy.{LogCopy}

@@ -2,7 +2,7 @@ use Rattle.std.proofs.Common.{inl, IfErr, subst}
 use Rattle.std.proofs.lemmas.Result.{err_from_is_err_and}
 use Rattle.sqlite.specs.State.{HasCleanDisk}
 use Rattle.sqlite.specs.Held.{Held, state}
-use Rattle.dep_hub.specs.Archives.{KeepsAll}
+use Rattle.dep_exchange.specs.Archives.{KeepsAll}
 use Rattle.dep_store.specs.Archive.{shown_by}
 use Rattle.dep_store.specs.Shut.{FailsToReport}
 use Rattle.dep_store.specs.Staying.{LeavesOnly}

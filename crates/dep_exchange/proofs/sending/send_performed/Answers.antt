@@ -1,0 +1,72 @@
+use Rattle.std.proofs.Common.{◌≡◌, None, Some, refl, sym, ap, ◌∙◌}
+use Rattle.dep_answers.specs.declared.performed.StoredFile.{StoredFile}
+use Rattle.dep_exchange.specs.Sending.{outside}
+use Rattle.dep_exchange.specs.Owing.{with_more}
+use Rattle.dep_exchange.proofs.Leaving.{leaves_once}
+use Rattle.dep_exchange.proofs.OwingLemmas.{none_later, takes_both}
+use Rattle.dep_exchange.proofs.SendingLemmas.{ready_all, ready_cut, ready_front, front_cut}
+use Rattle.dep_exchange.proofs.BeginLemmas.{begins_as, unbegun}
+use Rattle.dep_exchange.proofs.sending.send_performed.Goals as goal
+
+pub returns-in-Ok-clause-owing : goal.returns-in-Ok-clause-owing
+returns-in-Ok-clause-owing g c =
+    let old = g.A.Archive.condition c.args.store.now in
+    let new = g.A.Archive.condition c.deliver.new.store in
+    let x = c.in-Ok.ensures.sends in (
+      x.0,
+      x.1,
+      takes_both (g.O.Outlet.taken c.args.out.now) (g.O.Outlet.taken c.send.new.out) (g.O.Outlet.taken c.deliver.new.out)
+          (c.in-Sent.ensures.sends.0, c.in-Sent.ensures.sends.1) c.deliver.ensures.takes,
+      ready_all (outside (g.O.Outlet.taken c.args.out.now) (g.O.Outlet.failures c.args.out.now) old) (outside (g.O.Outlet.taken c.send.new.out) (g.O.Outlet.failures c.send.new.out) old)
+          (outside (with_more (g.O.Outlet.taken c.deliver.new.out) x.0) (g.O.Outlet.failures c.deliver.new.out) new) c.args.performed.now c.in-Some.it c.in-Some.is
+          c.as_slice.result.now c.as_slice.ensures.value c.in-Sent.ensures.sends (c.in-Sent.ensures.kept refl) refl c.deliver.ensures.does.honest c.deliver.ensures.does.was_open
+          x.2 (λ disk s at. (c.in-Ok.ensures.does.ok disk s at tt).1) c.in-Ok.ensures.kept,
+    )
+
+pub returns-in-Err-clause-owing : goal.returns-in-Err-clause-owing
+returns-in-Err-clause-owing g c =
+    let old = g.A.Archive.condition c.args.store.now in
+    let new = g.A.Archive.condition c.deliver.new.store in
+    let x = c.in-Err.ensures.sends in (
+      x.0,
+      x.1,
+      takes_both (g.O.Outlet.taken c.args.out.now) (g.O.Outlet.taken c.send.new.out) (g.O.Outlet.taken c.deliver.new.out)
+          (c.in-Sent.ensures.sends.0, c.in-Sent.ensures.sends.1) c.deliver.ensures.takes,
+      ready_cut (outside (g.O.Outlet.taken c.args.out.now) (g.O.Outlet.failures c.args.out.now) old) (outside (g.O.Outlet.taken c.send.new.out) (g.O.Outlet.failures c.send.new.out) old)
+          (outside (with_more (g.O.Outlet.taken c.deliver.new.out) x.0) (g.O.Outlet.failures c.deliver.new.out) new) c.args.performed.now c.in-Some.it c.in-Some.is
+          c.as_slice.result.now c.as_slice.ensures.value c.in-Sent.ensures.sends (c.in-Sent.ensures.kept refl) refl c.deliver.ensures.does.honest c.deliver.ensures.does.was_open
+          _ x.2 c.in-Err.ensures.does.err (λ disk s at. leaves_once new s (c.in-Err.ensures.does.stop disk s at tt)),
+    )
+
+pub returns-in-None-clause-owing : goal.returns-in-None-clause-owing
+returns-in-None-clause-owing g c = (
+  None,
+  none_later (g.A.Archive.condition c.args.store.now) _ c.requires,
+  (c.in-Sent.ensures.sends.0, c.in-Sent.ensures.sends.1),
+  ready_front (g.O.Outlet.taken c.args.out.now) (g.O.Outlet.taken c.send.new.out) (g.O.Outlet.failures c.args.out.now) (g.O.Outlet.failures c.send.new.out)
+      (g.A.Archive.condition c.args.store.now) c.args.performed.now c.as_slice.result.now c.as_slice.ensures.value c.in-None.is c.in-Sent.ensures.sends (c.in-Sent.ensures.kept refl),
+)
+
+pub returns-in_default-clause-owing : goal.returns-in_default-clause-owing
+returns-in_default-clause-owing g c = (
+  None,
+  none_later (g.A.Archive.condition c.args.store.now) _ c.requires,
+  (c.send.ensures.sends.0, c.send.ensures.sends.1),
+  front_cut (g.O.Outlet.taken c.args.out.now) (g.O.Outlet.taken c.send.new.out) (g.O.Outlet.failures c.args.out.now) (g.O.Outlet.failures c.send.new.out)
+      (g.A.Archive.condition c.args.store.now) c.args.performed.now c.as_slice.result.now c.send.result c.as_slice.ensures.value
+      (g.met.A.Archive.settled c.args.store.now) c.in_default.not-Sent c.send.ensures.sends c.send.ensures.cause,
+)
+
+pub returns-in-Ok-clause-begins : goal.returns-in-Ok-clause-begins
+returns-in-Ok-clause-begins g c = begins_as (λ r. r.file ≡ c.in-Some.it) (λ r. c.args.performed.now.stored ≡ Some r.file) (g.C.Contents.rest c.deliver.new.self)
+    (λ r is. c.in-Some.is ∙ ap (λ (it : StoredFile). Some it) (sym is)) c.deliver.ensures.begins
+
+pub returns-in-Err-clause-begins : goal.returns-in-Err-clause-begins
+returns-in-Err-clause-begins g c = begins_as (λ r. r.file ≡ c.in-Some.it) (λ r. c.args.performed.now.stored ≡ Some r.file) (g.C.Contents.rest c.deliver.new.self)
+    (λ r is. c.in-Some.is ∙ ap (λ (it : StoredFile). Some it) (sym is)) c.deliver.ensures.begins
+
+pub returns-in-None-clause-begins : goal.returns-in-None-clause-begins
+returns-in-None-clause-begins g c = unbegun _ _ c.requires
+
+pub returns-in_default-clause-begins : goal.returns-in_default-clause-begins
+returns-in_default-clause-begins g c = unbegun _ _ c.requires

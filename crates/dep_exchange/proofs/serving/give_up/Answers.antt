@@ -1,0 +1,14 @@
+use Rattle.std.proofs.Common.{subst, sym, ◌∙◌}
+use Rattle.dep_exchange.specs.Machine.{SendsUpTo, out_of_memory}
+use Rattle.dep_exchange.proofs.ShutLemmas.{sends_up_to, was_cut}
+use Rattle.dep_exchange.proofs.serving.give_up.Goals as goal
+
+pub returns : goal.returns
+returns g c =
+    let a = c.send_fault-answer.ensures in
+    let how = c.send_fault-answer.result in
+    record {
+      sent = (a.0, a.1, subst (λ answer. SendsUpTo out_of_memory a.0 answer) (sym c.end.ensures.answer) (sends_up_to out_of_memory a.0 how a.2));
+      cause = λ e. a.3 (was_cut how (sym c.end.ensures.answer ∙ e));
+      shut = c.end.ensures.shut;
+    }

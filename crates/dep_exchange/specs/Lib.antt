@@ -1,0 +1,12 @@
+pub mod Machine
+pub mod Stops
+pub mod Records
+pub mod Causes
+pub mod Sending
+pub mod Serving
+pub mod Nexts
+pub mod Performing
+pub mod Archives
+pub mod Shut
+pub mod ArchiveCalls
+pub mod Owing

@@ -1,0 +1,102 @@
+//! Replies that are sent over an outlet.
+ghost use Rattle.std.specs.Prelude.{◌≡◌, None, Some, IfSome};
+ghost use Rattle.dep_types.specs.Writing.{HasRisen};
+ghost use Rattle.dep_exchange.specs.Sending.{SendsOver, SendsReady, SendsReply, outside_of, reply_to};
+ghost use Rattle.dep_exchange.specs.Owing.{Owing};
+
+use crate::access_log::AccessLog;
+use crate::archive::Archive;
+use crate::contents::Contents;
+use dep_answers::Performed;
+use dep_types::{Outlet, StoreFault, WriteFailed};
+
+/// How an item was answered.
+#[derive(Clone, Copy)]
+pub(crate) enum Answered {
+    /// Its reply was sent.
+    Sent,
+    /// A fixed reply was sent in its place.
+    GaveUp,
+    /// What was sent is a part of a reply.
+    CutShort,
+}
+
+const WANT_OF_MEMORY: &[u8] =
+    b"HTTP/1.1 503 Service Unavailable\r\nContent-Length: 0\r\nConnection: close\r\n\r\n";
+
+const STORE_FAULT: &[u8] =
+    b"HTTP/1.1 500 Internal Server Error\r\nContent-Length: 0\r\nConnection: close\r\n\r\n";
+
+// The fixed reply for a fault (RFC 9110, sections 15.6.1 and 15.6.4).
+fn fixed_reply(fault: StoreFault) -> &'static [u8]
+    ensures { result.now ≡ reply_to fault }
+{
+    match fault {
+        StoreFault::Store => STORE_FAULT,
+        StoreFault::Memory => WANT_OF_MEMORY,
+    }
+}
+
+// Its status.
+fn fixed_status(fault: StoreFault) -> u16 {
+    match fault {
+        StoreFault::Store => 500,
+        StoreFault::Memory => 503,
+    }
+}
+
+/// Sends the fixed reply for a fault.
+pub(crate) fn send_fault<O: Outlet, L: AccessLog>(
+    fault: StoreFault,
+    out: &mut O,
+    log: &mut L,
+) -> Answered
+    ensures { SendsOver (O.taken out.old) (O.taken out.new)
+        (O.failures out.old) (O.failures out.new) (reply_to fault) result }
+{
+    let fixed = fixed_reply(fault);
+    log.reply(fixed_status(fault), None);
+    match out.write(fixed) {
+        Ok(()) => Answered::GaveUp,
+        Err(WriteFailed) => Answered::CutShort,
+    }
+}
+
+/// Sends an item's own reply.
+pub(crate) fn send<O: Outlet>(out: &mut O, reply: &[u8]) -> Answered
+    ensures sends { SendsReply (O.taken out.old) (O.taken out.new) reply.now result }
+    ensures kept { result ≡ Answered.Sent → O.failures out.new ≡ O.failures out.old }
+    ensures cause { result ≡ Answered.CutShort
+        → HasRisen (O.failures out.old) (O.failures out.new) }
+{
+    match out.write(reply) {
+        Ok(()) => Answered::Sent,
+        Err(WriteFailed) => Answered::CutShort,
+    }
+}
+
+/// Sends what is ready: its front as one write, and the content of a file behind it, now or later.
+pub(crate) fn send_performed<A: Archive, O: Outlet, L: AccessLog, C: Contents>(
+    store: &mut A,
+    performed: &Performed,
+    out: &mut O,
+    log: &mut L,
+    contents: &mut C,
+) -> Answered
+    requires { C.rest contents.old ≡ None }
+    ensures owing { Owing O.Outlet out.old out.new (A.condition store.new) (C.rest contents.new) (λ new.
+        SendsReady (outside_of O.Outlet out.old (A.condition store.old)) new performed.now result) }
+    ensures begins { IfSome (C.rest contents.new) (λ r. performed.now.stored ≡ Some r.file) }
+{
+    log.reply(performed.status.number(), performed.refusal);
+    match send(out, performed.front.as_slice()) {
+        Answered::Sent => match performed.stored {
+            Some(it) => match contents.deliver(store, it, out) {
+                Ok(()) => Answered::Sent,
+                Err(_) => Answered::CutShort,
+            },
+            None => Answered::Sent,
+        },
+        answered => answered,
+    }
+}

@@ -1,0 +1,160 @@
+//! One arrival: the items that are complete now are answered in order.
+ghost use Rattle.std.specs.Prelude.{◌≡◌, ◌≢◌, None, IfSome};
+ghost use Rattle.dep_message.specs.Places.{shut_reading};
+ghost use Rattle.dep_exchange.specs.Sending.{outside_of};
+ghost use Rattle.dep_exchange.specs.Serving.{BeginsFirst, ServesOver, KeepsIntake, arrival_with, answer_after};
+ghost use Rattle.dep_exchange.specs.Owing.{Owing};
+ghost use Rattle.dep_exchange.specs.Nexts.{TakesNext, ReportsLackOfMemory, ended_as, next_behind, reading_behind};
+
+use crate::access_log::{AccessLog, NoLog};
+use crate::archive::Archive;
+use crate::arrived::Arrived;
+use crate::contents::{AtOnce, Contents};
+use crate::next::Next;
+use crate::sending::{Answered, send_fault};
+use crate::site::{Context, Site};
+use crate::step::{StreamRefusal, WholeMessage, answer_continue, answer_fault, answer_message};
+use dep_message::{Intake, Step};
+use dep_moment::Moment;
+use dep_types::{Outlet, StoreFault};
+use std::alloc::AllocError;
+
+/// A piece of a connection's stream, and when it came.
+#[derive(Clone, Copy)]
+pub struct Piece<'a> {
+    /// Its bytes.
+    pub bytes: &'a [u8],
+    /// When it came.
+    pub moment: Moment,
+}
+
+/// Takes the piece, and answers each item that is complete with it.
+pub fn serve<A: Archive, O: Outlet>(
+    site: &Site,
+    store: &mut A,
+    intake: &mut Intake,
+    piece: &Piece<'_>,
+    out: &mut O,
+) -> Arrived
+    ensures served { ServesOver site.now
+        (arrival_with intake.old piece.now)
+        (outside_of O.Outlet out.old (A.condition store.old))
+        (outside_of O.Outlet out.new (A.condition store.new)) intake.new.place result }
+    ensures keeps { KeepsIntake intake.old intake.new }
+    ensures there { result ≢ Arrived.NoSuch }
+{
+    if let Err(AllocError) = intake.feed(piece.bytes) {
+        return give_up(intake, out, &mut NoLog);
+    }
+    let context = Context {
+        site,
+        moment: piece.moment,
+    };
+    loop {
+        match answer_next(&context, store, intake, out, &mut NoLog) {
+            Next::More => {}
+            Next::Waiting => return Arrived::Open,
+            Next::Closed => return Arrived::Closed,
+            Next::Cut => return Arrived::Cut,
+            Next::NoSuch => unreachable!(),
+        }
+    }
+}
+
+/// Answers the next item, where one is complete, with all of its reply. It is never `NoSuch`.
+pub(crate) fn answer_next<A: Archive, O: Outlet, L: AccessLog>(
+    context: &Context<'_>,
+    store: &mut A,
+    intake: &mut Intake,
+    out: &mut O,
+    log: &mut L,
+) -> Next
+    ensures { TakesNext context.now.site.now intake.old intake.new context.now.moment
+        (outside_of O.Outlet out.old (A.condition store.old))
+        (outside_of O.Outlet out.new (A.condition store.new)) result }
+{
+    take_next(context, store, intake, out, log, &mut AtOnce)
+}
+
+/// Answers the next item, where one is complete, and a content behind the reply goes out now or later. It is
+/// never `NoSuch`.
+pub fn take_next<A: Archive, O: Outlet, L: AccessLog, C: Contents>(
+    context: &Context<'_>,
+    store: &mut A,
+    intake: &mut Intake,
+    out: &mut O,
+    log: &mut L,
+    contents: &mut C,
+) -> Next
+    requires { C.rest contents.old ≡ None }
+    ensures owing { Owing O.Outlet out.old out.new (A.condition store.new) (C.rest contents.new) (λ new.
+        TakesNext context.now.site.now intake.old intake.new context.now.moment
+        (outside_of O.Outlet out.old (A.condition store.old)) new result) }
+    // What is sent later is what the item asks for.
+    ensures begins { IfSome (C.rest contents.new) (BeginsFirst context.now.site.now
+        intake.old context.now.moment (A.condition store.old) (A.condition store.new)) }
+{
+    match intake.next() {
+        Err(AllocError) => last(give_up(intake, out, log)),
+        Ok(Step::NeedMore) => Next::Waiting,
+        Ok(Step::Dead) => Next::Closed,
+        Ok(Step::Refused(refusal, is_head_only)) => {
+            let fault = StreamRefusal {
+                refusal,
+                is_head_only,
+            };
+            let answer = answer_fault(context, store, fault, out, log, contents);
+            next_after(intake, answer, true)
+        }
+        Ok(Step::Continue100) => {
+            let answer = answer_continue(store, out);
+            next_after(intake, answer, false)
+        }
+        Ok(Step::Message(message, is_last)) => {
+            let item = WholeMessage { message, is_last };
+            let answer = answer_message(context, store, item, out, log, contents);
+            next_after(intake, answer, is_last)
+        }
+    }
+}
+
+// What comes after an item. Another follows where the whole reply was sent, and the item isn't the last.
+fn next_after(intake: &mut Intake, answer: Answered, is_last: bool) -> Next
+    ensures next { result ≡ next_behind answer is_last }
+    ensures read { intake.new ≡ reading_behind intake.old answer is_last }
+{
+    match answer {
+        Answered::Sent if !is_last => Next::More,
+        _ => last(end(intake, answer)),
+    }
+}
+
+// How the end of a connection is returned.
+fn last(ended: Arrived) -> Next
+    ensures { result ≡ ended_as ended }
+{
+    match ended {
+        Arrived::Cut => Next::Cut,
+        _ => Next::Closed,
+    }
+}
+
+/// Ends a connection for lack of memory: the fixed reply for it is sent, and nothing is read any more.
+pub fn give_up<O: Outlet, L: AccessLog>(intake: &mut Intake, out: &mut O, log: &mut L) -> Arrived
+    ensures { ReportsLackOfMemory (O.taken out.old) (O.taken out.new)
+        (O.failures out.old) (O.failures out.new) intake.old intake.new result }
+{
+    let answer = send_fault(StoreFault::Memory, out, log);
+    end(intake, answer)
+}
+
+fn end(intake: &mut Intake, answer: Answered) -> Arrived
+    ensures answer { result ≡ answer_after answer }
+    ensures shut { intake.new ≡ shut_reading intake.old }
+{
+    intake.shut();
+    match answer {
+        Answered::CutShort => Arrived::Cut,
+        _ => Arrived::Closed,
+    }
+}
