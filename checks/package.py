@@ -27,7 +27,7 @@ from expectations import expect, find, status_of
 from served import Served, free_port
 
 # What deploy/package reads of the tree, beside the program.
-READ = ("deploy", "docs", "README.md", "CHANGELOG.md", "LICENSE", "crates/swordd/src/start.rt")
+READ = ("deploy", "docs", "README.md", "CHANGELOG.md", "LICENSE", "crates/dep_application/src/start.rt")
 VERSION = re.compile(r'(?m)(?<=const VERSION: &str = ").*(?=";$)')
 FOLDERS = {"var/lib/swordd": (0o750, "swordd"), "var/spool/swordd": (0o750, "swordd"), "var/backups/swordd": (0o700, "root")}
 CONFIGURATION = "etc/swordd/configuration.json"
@@ -46,7 +46,7 @@ def run(status, *words, **how):
 
 
 def version():
-    return VERSION.search((ROOT / "crates/swordd/src/start.rt").read_text(encoding="utf-8"))[0]
+    return VERSION.search((ROOT / "crates/dep_application/src/start.rt").read_text(encoding="utf-8"))[0]
 
 
 def copy_tree(folder, told):

@@ -2,21 +2,7 @@
 //! connections at once.
 #![tactic(auto)]
 
-mod called;
-mod commands;
-mod folders;
-mod held_lines;
-mod host;
-mod host_log;
-mod hosting;
-mod logged_reserve;
-mod progress;
-mod start;
-mod store_file;
-
-use crate::called::is_called_host;
-use crate::commands::run_command;
-use crate::host::run_host;
+use dep_application::{is_called_host, run_command, run_host};
 pub use dep_commands::{audit_all, export_object, replay, replay_gathered};
 pub use dep_program::{Outcome, serve_on};
 use std::process::ExitCode;

@@ -3,7 +3,7 @@ ghost use Rattle.std.specs.Prelude.{◌≡◌, false};
 ghost use Rattle.sqlite.specs.Held.{state};
 ghost use Rattle.dep_slot.specs.Causes.{causes_of};
 ghost use Rattle.dep_sockets.specs.Acceptors.{acceptor_state};
-ghost use Rattle.swordd.specs.Hosted.{HostsDatabase, IsEntranceOf, IsPlaceOf, host_limits};
+ghost use Rattle.dep_application.specs.Hosted.{HostsDatabase, IsEntranceOf, IsPlaceOf, host_limits};
 
 use crate::host_log::StandardErrorLog;
 use crate::logged_reserve::LoggedReserve;
@@ -138,7 +138,7 @@ fn fails(rt: &HostRuntime, what: &str) -> Outcome {
 impl DatabaseWork for HostService<'_> {
     ghost use Rattle.dep_slot.specs.Causes.{causes_of};
     ghost use Rattle.dep_sockets.specs.Acceptors.{acceptor_state};
-    ghost use Rattle.swordd.specs.Hosted.{ServesPlace};
+    ghost use Rattle.dep_application.specs.Hosted.{ServesPlace};
 
     ghost does = { λ it S g given back.
         let acceptor = ⟦<HostAcceptor as Acceptor<SocketSource, SocketSink, HostSpool>>⟧ in

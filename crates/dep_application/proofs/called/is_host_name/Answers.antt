@@ -1,8 +1,8 @@
 use Rattle.std.proofs.Common.{◌≢◌, ◌∙◌, codes, sym, true≢false}
 use Rattle.std.proofs.lemmas.Bool.Decides.{Decides-eqb}
 use Rattle.std.proofs.lemmas.Slice.Eq.{slice_eq-Decides}
-use Rattle.swordd.proofs.CalledLemmas.{is_behind}
-use Rattle.swordd.proofs.called.is_host_name.Goals as goal
+use Rattle.dep_application.proofs.CalledLemmas.{is_behind}
+use Rattle.dep_application.proofs.called.is_host_name.Goals as goal
 
 pub returns-else-eq : goal.returns-else-eq
 returns-else-eq c =

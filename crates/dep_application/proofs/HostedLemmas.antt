@@ -26,10 +26,10 @@ use Rattle.dep_host.specs.Runs as runs
 use Rattle.dep_program.specs.declared.outcome.Outcome.{Outcome}
 use Rattle.dep_slot.specs.declared.limits.Limits.{Limits as Bounds}
 use Rattle.dep_sockets.specs.Acceptors.{AcceptorState, EndsHub, WentOn}
-use Rattle.swordd.specs.declared.host_log.StandardErrorLog.{StandardErrorLog}
+use Rattle.dep_application.specs.declared.host_log.StandardErrorLog.{StandardErrorLog}
 use Rattle.dep_configuration.specs.declared.configuration.ServerLimits.{ServerLimits}
 use Rattle.dep_commands.specs.Reserved.{call_log_of, condition_of}
-use Rattle.swordd.specs.Hosted.{HostStore, LedBy, IsHosted, HostsDatabase, hosts, host_limits, left_alone, not_checked, not_made, not_opened, unshown}
+use Rattle.dep_application.specs.Hosted.{HostStore, LedBy, IsHosted, HostsDatabase, hosts, host_limits, left_alone, not_checked, not_made, not_opened, unshown}
 
 module _ {S : Type 0} (g : Ghosts S) (clean : (h : Held S) → IsTrue (state g h).is_open → HasCleanDisk (state g h))
     (settled : (h : Held S) → IsTrue (state g h).is_open → IsSettled (state g h)) (given : Held S) (config : Config) (opened : Hub (HostStore S))

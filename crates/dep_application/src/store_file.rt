@@ -15,7 +15,7 @@ struct JobHere<'a> {
 }
 
 impl DatabaseWork for JobHere<'_> {
-    ghost use Rattle.swordd.specs.Jobs.{WorksOn};
+    ghost use Rattle.dep_application.specs.Jobs.{WorksOn};
 
     ghost does = { λ it S g given back. WorksOn g it.job given back };
 

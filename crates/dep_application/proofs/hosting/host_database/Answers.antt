@@ -2,8 +2,8 @@ use Rattle.std.proofs.Common.{ap, refl, ◌∙◌}
 use Rattle.sqlite.proofs.StateLemmas.{clean_if_open}
 use Rattle.dep_slot.specs.Causes.{causes_of}
 use Rattle.dep_store.specs.declared.archive.HashingStore.{HashingStore}
-use Rattle.swordd.proofs.HostedLemmas.{over_hub, without_hub}
-use Rattle.swordd.proofs.hosting.host_database.Goals as goal
+use Rattle.dep_application.proofs.HostedLemmas.{over_hub, without_hub}
+use Rattle.dep_application.proofs.hosting.host_database.Goals as goal
 
 pub returns-in-Ok : goal.returns-in-Ok
 returns-in-Ok g c = record {

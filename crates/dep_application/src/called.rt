@@ -1,6 +1,6 @@
 //! The name by which the program was called.
 ghost use Rattle.std.specs.Prelude.{◌↔◌, IsTrue};
-ghost use Rattle.swordd.specs.Called.{IsHostName};
+ghost use Rattle.dep_application.specs.Called.{IsHostName};
 
 use std::rt::Env;
 

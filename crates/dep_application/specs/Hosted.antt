@@ -12,7 +12,7 @@ use Rattle.dep_schema.specs.States.{Represents, IsLeftAs, Leaves}
 use Rattle.dep_store.specs.Migrating.{Keeps}
 use Rattle.dep_store.specs.declared.archive.HashingStore.{HashingStore}
 use Rattle.dep_reserve.specs.declared.reserved_archive.ReservedArchive.{ReservedArchive}
-use Rattle.swordd.specs.declared.logged_reserve.LoggedReserve.{LoggedReserve}
+use Rattle.dep_application.specs.declared.logged_reserve.LoggedReserve.{LoggedReserve}
 use Rattle.dep_commands.specs.Starting.{IsOpened, OpeningLeaves}
 use Rattle.dep_commands.specs.Reserved.{call_log_of, condition_of}
 use Rattle.dep_exchange.specs.Records.{World, Record, Run, first_world, stopped}
@@ -27,8 +27,8 @@ use Rattle.dep_configuration.specs.declared.configuration.Configuration.{Configu
 use Rattle.dep_configuration.specs.declared.configuration.ServerLimits.{ServerLimits}
 use Rattle.dep_sockets.specs.Acceptors.{AcceptorState, EndsHub}
 use Rattle.dep_sockets.specs.declared.acceptor.Entrance.{Entrance}
-use Rattle.swordd.specs.declared.hosting.HostOptions.{HostOptions}
-use Rattle.swordd.specs.declared.host_log.StandardErrorLog.{StandardErrorLog}
+use Rattle.dep_application.specs.declared.hosting.HostOptions.{HostOptions}
+use Rattle.dep_application.specs.declared.host_log.StandardErrorLog.{StandardErrorLog}
 use Rattle.dep_program.specs.declared.outcome.Outcome.{Outcome}
 use Rattle.dep_program.specs.declared.outcome.Outcome.TheVariants.{Usage, StoreFault}
 

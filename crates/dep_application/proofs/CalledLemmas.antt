@@ -4,7 +4,7 @@ use Rattle.std.specs.List.{ends_with}
 use Rattle.std.proofs.Math.Dec.{eqb}
 use Rattle.std.proofs.lemmas.Bool.Decides.{Decides-eqb}
 use Rattle.std.proofs.lemmas.Slice.Eq.{ends_is}
-use Rattle.swordd.specs.Called.{IsHostName}
+use Rattle.dep_application.specs.Called.{IsHostName}
 
 module _ (path : List ℕ) (r : Bool) (other : path ≢ codes "swordd_host") (front : (folder : List ℕ) → path ≡ folder ++ codes "/swordd_host" → IsTrue r) where
   ends : IsHostName path → IsTrue r
