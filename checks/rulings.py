@@ -71,15 +71,8 @@ class Reply:
         return fill(self.words(), f"\\{{{self.text}}}")
 
 
-REFUSALS = {
-    "BadRequest": "bad-request", "ContentMalformed": "content-malformed", "InvalidSegmentSize": "invalid-segment-size",
-    "UnexpectedSegment": "unexpected-segment", "SegmentLimitExceeded": "segment-limit-exceeded",
-    "MaxAssembledSizeExceeded": "max-assembled-size-exceeded", "NotFound": "not-found", "SegmentedUploadTimedOut": "timed-out",
-    "DigestMismatch": "digest-mismatch", "ETagNotMatched": "tag-not-matched", "ETagRequired": "tag-required",
-    "OnBehalfOfNotAllowed": "on-behalf-of-not-allowed", "ByReferenceNotAllowed": "by-reference-not-allowed",
-    "ContentTypeNotAcceptable": "content-type-not-acceptable", "MetadataFormatNotAcceptable": "metadata-format-not-acceptable",
-    "PackagingFormatNotAcceptable": "packaging-format-not-acceptable", "StoreFull": "store-full",
-}
+# The names of error documents in texts.txt that aren't spelled as their refusals.
+OTHERWISE_NAMED = {"ETagNotMatched": "tag-not-matched", "ETagRequired": "tag-required", "SegmentedUploadTimedOut": "timed-out"}
 HEADS = {"bad-request": "bad-request-head", "on-behalf-of-not-allowed": "on-behalf-of-not-allowed-head",
          "not-found": "not-found-head", "timed-out": "timed-out-head"}
 
@@ -154,12 +147,17 @@ def answer(asked, case):
     return made(asked, case, change) if asked.resource == "service" else changed(asked, case, change)
 
 
+def document_of(refused):
+    """The name in texts.txt of the error document of a refusal: its own in small letters, with a hyphen before each other word."""
+    return OTHERWISE_NAMED.get(refused) or re.sub(r"(?<!^)(?=[A-Z])", "-", refused).lower()
+
+
 def reply_to(case):
     """The reply by the order of refusals, and else by what the request asks for."""
     refused = refusal(case)
     if refused is None:
         return answer(accepted(case), case)
-    text = REFUSALS[refused]
+    text = document_of(refused)
     return Reply(HEADS[text] if told(case, "request").startswith("HEAD ") else text)
 
 

@@ -133,24 +133,23 @@ export const text = {
     broken: "The page met a fault of its own.",
 };
 
+// What a person can do about a refusal, where there is more to say than `unknownHelp`.
 const HELP = {
-    BadRequest: text.unknownHelp, ContentMalformed: text.unknownHelp, InvalidSegmentSize: text.unknownHelp,
     UnexpectedSegment: "The file was changed while it was sent. Choose it again.",
     SegmentLimitExceeded: "Leave this file out, or split it.", MaxAssembledSizeExceeded: "Leave this file out, or split it.",
     NotFound: "It was deleted, or never was there. Look at the number.",
-    MethodNotAllowed: text.unknownHelp, SegmentedUploadTimedOut: "Go on: what timed out is sent anew.",
+    SegmentedUploadTimedOut: "Go on: what timed out is sent anew.",
     DigestMismatch: "What came isn't what was sent. Try again; if it happens again, tell whoever runs the server.",
-    ETagNotMatched: "Somebody else changed it meanwhile. Look at it, and try again.", ETagRequired: text.unknownHelp,
-    OnBehalfOfNotAllowed: "Tell whoever runs the server: it has to take deposits on behalf of others.", ByReferenceNotAllowed: text.unknownHelp,
+    ETagNotMatched: "Somebody else changed it meanwhile. Look at it, and try again.",
+    OnBehalfOfNotAllowed: "Tell whoever runs the server: it has to take deposits on behalf of others.",
     MaxUploadSizeExceeded: "Tell whoever runs the server: its limits changed. Load the page again.",
-    ContentTypeNotAcceptable: text.unknownHelp, MetadataFormatNotAcceptable: text.unknownHelp,
-    PackagingFormatNotAcceptable: text.unknownHelp, StoreFull: "Tell whoever runs the server.",
+    StoreFull: "Tell whoever runs the server.",
 };
 
 // What a fault says, and what the person can do.
 export function told(fault) {
-    if (fault.name in HELP) {
-        return { words: `${fault.message} (${fault.name}, ${fault.log}).`, help: HELP[fault.name] };
+    if (fault.log) {
+        return { words: `${fault.message} (${fault.name}, ${fault.log}).`, help: HELP[fault.name] ?? text.unknownHelp };
     }
     const name = fault.constructor.name;
     if (name === "Unreachable") {

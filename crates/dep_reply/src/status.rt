@@ -81,26 +81,15 @@ impl From<Refusal> for Status {
 
     /// The status of the reply to a refused request.
     fn from(refusal: Refusal) -> Self {
-        match refusal {
-            Refusal::BadRequest
-            | Refusal::ContentMalformed
-            | Refusal::InvalidSegmentSize
-            | Refusal::UnexpectedSegment
-            | Refusal::SegmentLimitExceeded
-            | Refusal::MaxAssembledSizeExceeded => Status::BadRequest,
-            Refusal::NotFound => Status::NotFound,
-            Refusal::MethodNotAllowed => Status::MethodNotAllowed,
-            Refusal::SegmentedUploadTimedOut => Status::Gone,
-            Refusal::DigestMismatch
-            | Refusal::ETagNotMatched
-            | Refusal::ETagRequired
-            | Refusal::OnBehalfOfNotAllowed
-            | Refusal::ByReferenceNotAllowed => Status::PreconditionFailed,
-            Refusal::MaxUploadSizeExceeded => Status::ContentTooLarge,
-            Refusal::ContentTypeNotAcceptable
-            | Refusal::MetadataFormatNotAcceptable
-            | Refusal::PackagingFormatNotAcceptable => Status::UnsupportedMediaType,
-            Refusal::StoreFull => Status::InsufficientStorage,
+        match refusal.status() {
+            400 => Status::BadRequest,
+            404 => Status::NotFound,
+            405 => Status::MethodNotAllowed,
+            410 => Status::Gone,
+            412 => Status::PreconditionFailed,
+            413 => Status::ContentTooLarge,
+            415 => Status::UnsupportedMediaType,
+            _ => Status::InsufficientStorage,
         }
     }
 }

@@ -47,25 +47,8 @@ apart_too a b e five two = let same : ninth a ≡ ninth b = ap ninth e in cc
 
 other_status : (r : Refusal) (x y : List ℕ) → status_line (facts_of r).status ++ x ≡ status_line 204 ++ y → ⊥
 unfolding ninth status_line digits
-other_status why.BadRequest x y e = apart _ _ e refl refl
-other_status why.ContentMalformed x y e = apart _ _ e refl refl
-other_status why.InvalidSegmentSize x y e = apart _ _ e refl refl
-other_status why.UnexpectedSegment x y e = apart _ _ e refl refl
-other_status why.SegmentLimitExceeded x y e = apart _ _ e refl refl
-other_status why.MaxAssembledSizeExceeded x y e = apart _ _ e refl refl
-other_status why.NotFound x y e = apart _ _ e refl refl
-other_status why.MethodNotAllowed x y e = apart _ _ e refl refl
-other_status why.SegmentedUploadTimedOut x y e = apart _ _ e refl refl
-other_status why.DigestMismatch x y e = apart _ _ e refl refl
-other_status why.ETagNotMatched x y e = apart _ _ e refl refl
-other_status why.ETagRequired x y e = apart _ _ e refl refl
-other_status why.OnBehalfOfNotAllowed x y e = apart _ _ e refl refl
-other_status why.ByReferenceNotAllowed x y e = apart _ _ e refl refl
-other_status why.MaxUploadSizeExceeded x y e = apart _ _ e refl refl
-other_status why.ContentTypeNotAcceptable x y e = apart _ _ e refl refl
-other_status why.MetadataFormatNotAcceptable x y e = apart _ _ e refl refl
-other_status why.PackagingFormatNotAcceptable x y e = apart _ _ e refl refl
 other_status why.StoreFull x y e = apart_too _ _ e refl refl
+other_status _ x y e = apart _ _ e refl refl
 
 -- what stands behind the status in a head
 pub fields_text : ReplyHead → List ℕ
