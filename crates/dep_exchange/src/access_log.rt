@@ -2,7 +2,7 @@
 
 use dep_types::Refusal;
 
-/// A log that is told of each item that `Hub::reply` answers. What is sent and kept doesn't depend on it.
+/// A log that is told of each item that is answered. What is sent and kept doesn't depend on it.
 pub trait AccessLog {
     /// A whole request is answered next: its method as it was sent, the path of its target without the query
     /// and not decoded, and how many bytes its content has. What a stream has in place of a request is

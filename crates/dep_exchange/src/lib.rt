@@ -18,5 +18,6 @@ pub use arrived::Arrived;
 pub use contents::{Contents, InSteps};
 pub use next::Next;
 pub use rest::Rest;
+pub use sending::Answered;
 pub use serving::{Piece, give_up, serve, take_next};
 pub use site::{Context, Site};

@@ -12,7 +12,7 @@ use dep_types::{Outlet, StoreFault, WriteFailed};
 
 /// How an item was answered.
 #[derive(Clone, Copy)]
-pub(crate) enum Answered {
+pub enum Answered {
     /// Its reply was sent.
     Sent,
     /// A fixed reply was sent in its place.
