@@ -40,6 +40,11 @@ pub record EndsSending {S : Type 0} (g : Ghosts S) (sql : List ℕ) (params : Ro
   pub outlet : BlamesOutlet Writer were are result
   pub there : result ≢ Err NoSuchFile
 
+-- the same of a connection that is given back
+pub ends_at : {S : Type 0} {g : Ghosts S} {sql : List ℕ} {params : Row} {first now back : Held S} {size : ℕ} {start taken : Option (List ℕ)} {were are : ℕ} {result : Result (Unit {0}) StreamFault}
+    → now ≡ back → EndsSending g sql params first now size start taken were are result → EndsSending g sql params first back size start taken were are result
+ends_at {g = g} {sql} {params} {first} {size = size} {start} {taken} {were} {are} {result} is ends = subst (λ h. EndsSending g sql params first h size start taken were are result) is ends
+
 -- the rows so far were sent, and there is more to send
 pub record HasSent {S : Type 0} (g : Ghosts S) (sql : List ℕ) (params : Row) (first now : Held S) (size left count : ℕ) (start taken : Option (List ℕ)) (were are : ℕ) : Type 0 where
   pub some : 0 < left

@@ -56,5 +56,5 @@ all_valued t values last count so_far none = record {
 }
 
 -- the next value is told where the tables are still as they were at first
-pub value_after : (old now : State) (after : ℕ) (found : Option FileSha512) → IsStill old now → IsKnown old → (IsKnown now → IsValueAfter (tables_of now) after found) → IsValueAfter (tables_of old) after found
-value_after old now after found still known next = subst (λ (t : Tables). IsValueAfter t after found) (tables_still old now still) (next (known_still old now still known))
+pub value_after : (old now : State) (after : ℕ) (found reported : Option FileSha512) → found ≡ reported → IsStill old now → IsKnown old → (IsKnown now → IsValueAfter (tables_of now) after found) → IsValueAfter (tables_of old) after reported
+value_after old now after found reported is still known next = subst (λ (t : Tables). IsValueAfter t after reported) (tables_still old now still) (subst (IsValueAfter (tables_of now) after) is (next (known_still old now still known)))

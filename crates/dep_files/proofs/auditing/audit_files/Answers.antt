@@ -66,10 +66,7 @@ returns g c =
 
 -- the files were not listed
 pub returns-in_err-rows : goal.returns-in_err-rows
-returns-in_err-rows g c =
-    let reported = c.in_err-rows.ensures in
-    let passed = passed_on c.from_residual.result c.in_err-rows.field-0.0 c.from_residual.ensures.1 in
-    rw passed record { audits = λ clean ours. tt; cause = λ clean ours. inl (reported.cause clean); reads = over_err reported.reads }
+returns-in_err-rows g c = rw (passed_on c.from_residual.result c.in_err-rows.field-0.0 c.from_residual.ensures.1) record { audits = λ clean ours. tt; cause = λ clean ours. inl (c.in_err-rows.ensures.cause clean); reads = over_err c.in_err-rows.ensures.reads }
 
 -- one was not checked
 pub returns-in_err-keep_damaged : goal.returns-in_err-keep_damaged

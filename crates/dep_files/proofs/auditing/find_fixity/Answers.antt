@@ -10,15 +10,13 @@ use Rattle.dep_files.proofs.auditing.find_fixity.Goals as goal
 pub returns-in_err-file : goal.returns-in_err-file
 returns-in_err-file g c =
     let reported = c.in_err-file.ensures.refused in
-    let passed = passed_on c.from_residual.result c.in_err-file.field-0.0 c.from_residual.ensures.1 in
-    rw passed record { ok = λ clean ours. tt; cause = λ clean ours. no_file reported.0 reported.1; reads = record { stays = stays_itself c.args.connection.now; same = λ clean. tt } }
+    rw (passed_on c.from_residual.result c.in_err-file.field-0.0 c.from_residual.ensures.1) record { ok = λ clean ours. tt; cause = λ clean ours. no_file reported.0 reported.1; reads = record { stays = stays_itself c.args.connection.now; same = λ clean. tt } }
 
 -- the SHA-512 that is kept was not told
 pub returns-in_err-sha512 : goal.returns-in_err-sha512
 returns-in_err-sha512 g c =
     let reported = c.in_err-sha512.ensures in
-    let passed = passed_on c.from_residual-in_err-sha512.result c.in_err-sha512.field-0.0 c.from_residual-in_err-sha512.ensures.1 in
-    rw passed record {
+    rw (passed_on c.from_residual-in_err-sha512.result c.in_err-sha512.field-0.0 c.from_residual-in_err-sha512.ensures.1) record {
       ok = λ clean ours. tt;
       cause = λ clean ours. no_sha512 c.in_ok-file.file c.in_ok-file.ensures.reported (reported.cause clean);
       reads = over_err reported.reads;
@@ -44,11 +42,9 @@ pub returns-in_err-digests : goal.returns-in_err-digests
 returns-in_err-digests g c =
     let first = c.in_ok-sha512.ensures in
     let second = c.in_err-digests.ensures in
-    let fault = c.in_err-digests.field-0.0 in
-    let passed = passed_on c.from_residual-in_err-digests.result fault c.from_residual-in_err-digests.ensures.1 in
-    rw passed record {
+    rw (passed_on c.from_residual-in_err-digests.result c.in_err-digests.field-0.0 c.from_residual-in_err-digests.ensures.1) record {
       ok = λ clean ours. tt;
       cause = λ clean ours. no_blocks c.in_ok-file.file c.in_ok-file.ensures.reported
-          (unread_behind first.reads second.reads (owner.File c.in_ok-file.file) fault second.cause clean (ours_known (state g.S.Store c.args.connection.now) ours));
+          (unread_behind first.reads second.reads (owner.File c.in_ok-file.file) c.in_err-digests.field-0.0 second.cause clean (ours_known (state g.S.Store c.args.connection.now) ours));
       reads = over_err (over_then first.reads second.reads);
     }

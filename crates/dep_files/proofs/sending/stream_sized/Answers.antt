@@ -1,9 +1,7 @@
-use Rattle.std.proofs.Common.{◌∙◌, refl, sym, subst, rules, Ok, Err, Some, None}
+use Rattle.std.proofs.Common.{◌∙◌, refl, sym, rules, Some, None}
 use Rattle.sqlite.specs.Values.{bound}
-use Rattle.dep_types.specs.declared.stream_fault.StreamFault.TheVariants.{Store}
 use Rattle.dep_files.proofs.NextRow.{answered}
-use Rattle.dep_files.proofs.RowsSent.{EndsSending, not_begun, none_sent, one_more, ends_failed, ends_short, ends_cut, ends_whole, ends_uncounted}
-use Rattle.dep_types.specs.StoreFaults.{stream_fault_for}
+use Rattle.dep_files.proofs.RowsSent.{ends_at, not_begun, none_sent, one_more, ends_failed, ends_short, ends_cut, ends_whole, ends_uncounted}
 use Rattle.dep_files.proofs.Reported.{passed_on}
 use Rattle.dep_files.proofs.sending.stream_sized.Goals as goal
 
@@ -35,46 +33,28 @@ rows-preserved g c =
 pub returns-in-Ok-None : goal.returns-in-Ok-None
 returns-in-Ok-None g c =
     let moved = c.next.follows.holds-at-none in
-    let now = c.next.follows.lender-at-none in
-    let names = sym (moved.same_reference ∙ c.rows.invariant.0 ∙ c.in-Ok.ensures.same_reference) in
-    let back = sym (c.connection-in-Ok-None-1.given.1 names ∙ c.drop-rows.ensures) in
-    let it = subst
-    (λ h. EndsSending g.S.Store c.args.sql.now (bound c.args.params.now) c.args.connection.now h c.args.size
-    (g.O.Outlet.taken c.args.out.now) (g.O.Outlet.taken c.rows.out) (g.O.Outlet.failures c.args.out.now) (g.O.Outlet.failures c.rows.out)
-    (Err Store))
-    back
-    (ends_short c.rows.rows now c.next.result moved c.rows.invariant.1 (answered c.next.result c.in-Ok-None.field-0 None c.in-Ok-None.is c.in-Ok-None.field-0-is)) in
+    let back = sym (c.connection-in-Ok-None-1.given.1 (sym (moved.same_reference ∙ c.rows.invariant.0 ∙ c.in-Ok.ensures.same_reference)) ∙ c.drop-rows.ensures) in
+    let it = ends_at back
+    (ends_short c.rows.rows c.next.follows.lender-at-none c.next.result moved c.rows.invariant.1 (answered c.next.result c.in-Ok-None.field-0 None c.in-Ok-None.is c.in-Ok-None.field-0-is)) in
     record { streams = it.streams; why = it.why; reads = it.reads; outlet = it.outlet; there = it.there }
 
 pub returns-in-Err-next : goal.returns-in-Err-next
 returns-in-Err-next g c =
     let moved = c.next.follows.holds-at-none in
-    let now = c.next.follows.lender-at-none in
-    let names = sym (moved.same_reference ∙ c.rows.invariant.0 ∙ c.in-Ok.ensures.same_reference) in
-    let back = sym (c.connection-in-Err-next-1.given.1 names ∙ c.drop-rows-in-Err-next.ensures) in
+    let back = sym (c.connection-in-Err-next-1.given.1 (sym (moved.same_reference ∙ c.rows.invariant.0 ∙ c.in-Ok.ensures.same_reference)) ∙ c.drop-rows-in-Err-next.ensures) in
     let fault = c.fault_of-in-Err-next.result in
-    let it = subst
-    (λ h. EndsSending g.S.Store c.args.sql.now (bound c.args.params.now) c.args.connection.now h c.args.size
-    (g.O.Outlet.taken c.args.out.now) (g.O.Outlet.taken c.rows.out) (g.O.Outlet.failures c.args.out.now) (g.O.Outlet.failures c.rows.out)
-    (Err (stream_fault_for fault)))
-    back
-    (ends_failed c.rows.rows now c.next.result moved c.rows.invariant.1 c.in-Err-next.error c.in-Err-next.is fault c.fault_of-in-Err-next.ensures) in
+    let it = ends_at back
+    (ends_failed c.rows.rows c.next.follows.lender-at-none c.next.result moved c.rows.invariant.1 c.in-Err-next.error c.in-Err-next.is fault c.fault_of-in-Err-next.ensures) in
     rw c.from-in-Err-next.ensures record { streams = it.streams; why = it.why; reads = it.reads; outlet = it.outlet; there = it.there }
 
 pub returns-in_err-left : goal.returns-in_err-left
 returns-in_err-left g c =
     let moved = c.next.follows.holds-at-none in
-    let now = c.next.follows.lender-at-none in
-    let names = sym (moved.same_reference ∙ c.rows.invariant.0 ∙ c.in-Ok.ensures.same_reference) in
-    let back = sym (c.connection-in_err-left-1.given.1 names ∙ c.drop-rows-in_err-left.ensures) in
+    let back = sym (c.connection-in_err-left-1.given.1 (sym (moved.same_reference ∙ c.rows.invariant.0 ∙ c.in-Ok.ensures.same_reference)) ∙ c.drop-rows-in_err-left.ensures) in
     let gave = c.in_err-left.ensures in
     let fault = c.in_err-left.field-0.0 in
-    let it = subst
-    (λ h. EndsSending g.S.Store c.args.sql.now (bound c.args.params.now) c.args.connection.now h c.args.size
-    (g.O.Outlet.taken c.args.out.now) (g.O.Outlet.taken c.give_sized.new.out) (g.O.Outlet.failures c.args.out.now) (g.O.Outlet.failures c.give_sized.new.out)
-    (Err fault))
-    back
-    (ends_cut c.rows.rows now c.next.result moved c.rows.invariant.1
+    let it = ends_at back
+    (ends_cut c.rows.rows c.next.follows.lender-at-none c.next.result moved c.rows.invariant.1
     c.in-Ok-Some.row (answered c.next.result c.in-Ok-Some.field-0 (Some c.in-Ok-Some.row) c.in-Ok-Some.is c.in-Ok-Some.field-0-is)
     (g.O.Outlet.taken c.give_sized.new.out) (g.O.Outlet.failures c.give_sized.new.out)
     fault gave.gives gave.refused gave.outlet) in
@@ -84,16 +64,10 @@ returns-in_err-left g c =
 pub returns-then-left-eq0 : goal.returns-then-left-eq0
 returns-then-left-eq0 g c =
     let moved = c.next.follows.holds-at-none in
-    let now = c.next.follows.lender-at-none in
-    let names = sym (moved.same_reference ∙ c.rows.invariant.0 ∙ c.in-Ok.ensures.same_reference) in
-    let back = sym (c.connection-then-left-eq0-1.given.1 names ∙ c.drop-rows-then-left-eq0.ensures) in
+    let back = sym (c.connection-then-left-eq0-1.given.1 (sym (moved.same_reference ∙ c.rows.invariant.0 ∙ c.in-Ok.ensures.same_reference)) ∙ c.drop-rows-then-left-eq0.ensures) in
     let gave = c.in_ok-left.ensures in
-    let it = subst
-    (λ h. EndsSending g.S.Store c.args.sql.now (bound c.args.params.now) c.args.connection.now h c.args.size
-    (g.O.Outlet.taken c.args.out.now) (g.O.Outlet.taken c.give_sized.new.out) (g.O.Outlet.failures c.args.out.now) (g.O.Outlet.failures c.give_sized.new.out)
-    (Ok tt))
-    back
-    (ends_whole c.rows.rows now c.next.result moved c.rows.invariant.1
+    let it = ends_at back
+    (ends_whole c.rows.rows c.next.follows.lender-at-none c.next.result moved c.rows.invariant.1
     c.in-Ok-Some.row (answered c.next.result c.in-Ok-Some.field-0 (Some c.in-Ok-Some.row) c.in-Ok-Some.is c.in-Ok-Some.field-0-is)
     (g.O.Outlet.taken c.give_sized.new.out) (g.O.Outlet.failures c.give_sized.new.out)
     c.in_ok-left.field-0 gave.gives gave.fits gave.outlet.kept c.if-left-eq0.true) in
@@ -102,11 +76,6 @@ returns-then-left-eq0 g c =
 -- no more rows can be counted
 pub returns : goal.returns
 returns g c =
-    let names = sym (c.rows.invariant.0 ∙ c.in-Ok.ensures.same_reference) in
-    let back = sym (c.connection-2-1.given.1 names ∙ c.drop-rows-2.ensures) in
-    let it = subst
-    (λ h. EndsSending g.S.Store c.args.sql.now (bound c.args.params.now) c.args.connection.now h c.args.size
-    (g.O.Outlet.taken c.args.out.now) (g.O.Outlet.taken c.rows.out) (g.O.Outlet.failures c.args.out.now) (g.O.Outlet.failures c.rows.out)
-    (Err Store))
-    back (ends_uncounted c.rows.rows.conn.now c.rows.invariant.1 c.rows-test.false) in
+    let back = sym (c.connection-2-1.given.1 (sym (c.rows.invariant.0 ∙ c.in-Ok.ensures.same_reference)) ∙ c.drop-rows-2.ensures) in
+    let it = ends_at back (ends_uncounted c.rows.rows.conn.now c.rows.invariant.1 c.rows-test.false) in
     record { streams = it.streams; why = it.why; reads = it.reads; outlet = it.outlet; there = it.there }

@@ -3,7 +3,6 @@ use Rattle.sqlite.specs.Held.{state}
 use Rattle.dep_tables.specs.Tables.{tables_of}
 use Rattle.dep_files.specs.Causes.FailsToFindFile.{no_number}
 use Rattle.dep_files.specs.Causes.FailsToHashNext.{no_file}
-use Rattle.dep_files.specs.Sha512s.{IsValueAfter}
 use Rattle.dep_files.proofs.Stills.{known_still, stays_itself, stays_then, still_itself, still_same, still_then}
 use Rattle.dep_files.proofs.KnownTables.{known_files_ordered}
 use Rattle.dep_files.proofs.Valued.{AreValuesTo, no_values, one_more, all_valued, value_after}
@@ -32,7 +31,7 @@ files-preserved g c =
       λ clean. still_same old new (still_then old mid new (inv.1 (earlier clean)) (reported.reads.same clean)),
       λ clean known.
           let before = earlier clean in
-          let some = subst (IsValueAfter (tables_of old) c.files.last) c.in-Some.is (value_after old mid c.files.last c.in_ok-value.field-0 (inv.1 before) known (reported.ok clean)) in
+          let some = value_after old mid c.files.last c.in_ok-value.field-0 _ c.in-Some.is (inv.1 before) known (reported.ok clean) in
           subst (λ vs. AreValuesTo (tables_of old) vs c.in-Some.value.file (c.files.counter + 1)) (sym (rw pushed at c.push.ensures.items))
           (one_more (tables_of old) c.files.values.items c.files.last c.files.counter c.in-Some.value (known_files_ordered old known) (inv.2 before known) some),
     )
@@ -47,8 +46,7 @@ returns-in_default g c =
     record {
       hashes = λ clean known.
           let before = reported.reads.stays.honest clean in
-          let next = value_after old mid c.files.last c.in_ok-value.field-0 (inv.1 before) known (reported.ok clean) in
-          all_valued (tables_of old) c.files.values.items c.files.last c.files.counter (inv.2 before known) (subst (IsValueAfter (tables_of old) c.files.last) c.in_default.is next);
+          all_valued (tables_of old) c.files.values.items c.files.last c.files.counter (inv.2 before known) (value_after old mid c.files.last c.in_ok-value.field-0 _ c.in_default.is (inv.1 before) known (reported.ok clean));
       cause = λ clean known. tt;
       reads = record {
         stays = stays_then inv.0 inv.1 reported.reads.stays;
@@ -57,36 +55,31 @@ returns-in_default g c =
     }
 
 -- one could not be kept
-pub returns-in_err-push : goal.returns-in_err-push
-returns-in_err-push g c =
-    let old = state g.S.Store c.args.connection.now in
-    let mid = state g.S.Store c.files.connection in
+pub returns-in_err-push-clause-cause : goal.returns-in_err-push-clause-cause
+returns-in_err-push-clause-cause g c =
     let inv = c.files.invariant in
     let reported = c.in_ok-value.ensures in
-    let passed = passed_on c.from_residual-in_err-push.result Memory c.from_residual-in_err-push.ensures.1 in
-    rw passed record {
-      hashes = λ clean known. tt;
-      cause = λ clean known.
-          let before = reported.reads.stays.honest clean in
-          let next = value_after old mid c.files.last c.in_ok-value.field-0 (inv.1 before) known (reported.ok clean) in
-          (c.files.last, (inv.2 before known).reached, inr (c.in-Some.value, subst (IsValueAfter (tables_of old) c.files.last) c.in-Some.is next, refl));
-      reads = record { stays = stays_then inv.0 inv.1 reported.reads.stays; same = λ clean. tt };
-    }
+    rw (passed_on c.from_residual-in_err-push.result Memory c.from_residual-in_err-push.ensures.1) (λ clean known.
+    let before = reported.reads.stays.honest clean in
+    let next = value_after (state g.S.Store c.args.connection.now) (state g.S.Store c.files.connection) c.files.last c.in_ok-value.field-0 _ c.in-Some.is (inv.1 before) known (reported.ok clean) in
+    (c.files.last, (inv.2 before known).reached, inr (c.in-Some.value, next, refl)))
+
+pub returns-in_err-push-clause-reads : goal.returns-in_err-push-clause-reads
+returns-in_err-push-clause-reads g c = rw (passed_on c.from_residual-in_err-push.result Memory c.from_residual-in_err-push.ensures.1)
+    record { stays = stays_then c.files.invariant.0 c.files.invariant.1 c.in_ok-value.ensures.reads.stays; same = λ clean. tt }
 
 -- one was not found, or not hashed
 pub returns-in_err-value : goal.returns-in_err-value
 returns-in_err-value g c =
-    let old = state g.S.Store c.args.connection.now in
-    let mid = state g.S.Store c.files.connection in
     let inv = c.files.invariant in
     let reported = c.in_err-value.ensures in
-    let passed = passed_on c.from_residual.result c.in_err-value.field-0.0 c.from_residual.ensures.1 in
-    rw passed record {
+    rw (passed_on c.from_residual.result c.in_err-value.field-0.0 c.from_residual.ensures.1) record {
       hashes = λ clean known. tt;
       cause = λ clean known.
           let before = reported.reads.stays.honest clean in
           let still = inv.1 before in
-          (c.files.last, (inv.2 before known).reached, inl (c.files.connection, still.now_is, reported.cause clean (known_still old mid still known)));
+          let failed = reported.cause clean (known_still (state g.S.Store c.args.connection.now) (state g.S.Store c.files.connection) still known) in
+          (c.files.last, (inv.2 before known).reached, inl (c.files.connection, still.now_is, failed));
       reads = record { stays = stays_then inv.0 inv.1 reported.reads.stays; same = λ clean. tt };
     }
 

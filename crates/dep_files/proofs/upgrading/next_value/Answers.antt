@@ -11,10 +11,7 @@ use Rattle.dep_files.proofs.upgrading.next_value.Goals as goal
 
 -- the file was not told
 pub returns-in_err-file : goal.returns-in_err-file
-returns-in_err-file g c =
-    let reported = c.in_err-file.ensures in
-    let passed = passed_on c.from_residual.result c.in_err-file.field-0.0 c.from_residual.ensures.1 in
-    rw passed record { ok = λ clean known. tt; cause = λ clean known. no_file (reported.cause clean); reads = over_err reported.reads }
+returns-in_err-file g c = rw (passed_on c.from_residual.result c.in_err-file.field-0.0 c.from_residual.ensures.1) record { ok = λ clean known. tt; cause = λ clean known. no_file (c.in_err-file.ensures.cause clean); reads = over_err c.in_err-file.ensures.reads }
 
 -- there is none
 pub returns-in_default : goal.returns-in_default
@@ -47,12 +44,10 @@ returns-in_err-digests g c =
     let old = state g.S.Store c.args.connection.now in
     let first = c.in_ok-file.ensures in
     let second = c.in_err-digests.ensures in
-    let fault = c.in_err-digests.field-0.0 in
-    let passed = passed_on c.from_residual-in_err-digests.result fault c.from_residual-in_err-digests.ensures.1 in
-    rw passed record {
+    rw (passed_on c.from_residual-in_err-digests.result c.in_err-digests.field-0.0 c.from_residual-in_err-digests.ensures.1) record {
       ok = λ clean known. tt;
       cause = λ clean known.
           no_blocks c.in-Some.file (subst (IsFileAfter (tables_of old) c.args.after) c.in-Some.is (first.ok (second.reads.stays.honest clean) known))
-          (unread_behind first.reads second.reads (owner.File c.in-Some.file) fault second.cause clean known);
+          (unread_behind first.reads second.reads (owner.File c.in-Some.file) c.in_err-digests.field-0.0 second.cause clean known);
       reads = over_err (over_then first.reads second.reads);
     }
