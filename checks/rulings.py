@@ -1,5 +1,5 @@
 #!/usr/bin/env python3
-"""Writes the example files on the order of refusals: crates/examples/data/order-*.txt.
+"""Writes the example files on the order of refusals: checks/examples/order-*.txt.
 
     checks/rulings.py
     checks/rulings.py --check        # says whether the files are as they would be written
