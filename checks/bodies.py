@@ -58,8 +58,7 @@ def read(name):
 
 
 def with_abstract(file, abstract):
-    """The texts that all files share, and those examples of a file that tell no abstract of their own, each with this one,
-    which the service document tells."""
+    """The texts that all files share, and the examples of a file, each with this abstract, which the service document tells."""
     lines = f"config abstract {abstract}\nlet abstract {abstract}\nlet service-length {SERVICE_LENGTH + len(abstract)}"
     return read("texts.txt"), re.sub(r"(?m)^(# .*)$", rf"\1\n{lines}", read(file))
 

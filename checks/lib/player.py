@@ -7,7 +7,7 @@ it is given a copy of the kit's folder, by links, whose clang keeps what rt try 
 the program of that. The wrong bodies of checks/bodies are in the same build, where no example file can meet them
 (checks/bodies.py), so that one build serves all checks.
 
-A build takes SECONDS processor seconds. It is kept in checks/player/out and made anew once anything that it is made of has
+It is kept in checks/player/out and made anew once anything that it is made of has
 changed; a check that wants it meanwhile waits.
 """
 
@@ -15,6 +15,7 @@ import contextlib
 import fcntl
 import hashlib
 import os
+import re
 import shutil
 import subprocess
 import tempfile
@@ -29,12 +30,19 @@ OUT = PLAYER / "out"
 # No wrong body: a hub tells its abstract to those that serve a connection by it.
 TOLD_ABSTRACT = BODIES / "told_abstract.edit"
 # rt try calls clang in a folder with the program as module.bc, in the end with a sanitizer. It clears the environment.
+SANITIZED = "-fsanitize=address"
 KEEPING = """#!/bin/sh
-case " $* " in *-fsanitize=address*) mv module.bc '{kept}'; exit 1;; esac
+case " $* " in *{sanitized}*) printf '%s\\n' "$@" >'{kept}/words'; mv module.bc '{kept}'; exit 1;; esac
 exec '{clang}' "$@"
 """
-# Few passes: more of them take longer than what they save. Then code as it comes, without a register allocator's care.
-PASSES = "PASSES"
+# How it is compiled instead: with the least sum of seconds for the build and for all that is played. A function with large
+# variables goes into no other, since LLVM takes minutes where many of these meet.
+BRIEFLY = ["-O1", "-mllvm", "-inline-max-stacksize=1000"]
+# What rt try puts in beside the program's own: a pattern in each new variable, checks of what is undefined in Rust, and a mark
+# for the sanitizer. The gate proves that none is needed, and a proved program has none.
+CHECKS = rb'\n  call void @"rattle-llvm-checks::(?!Unreachable)[^\n]*'
+PATTERNS = rb"(\n  (\S+) = alloca [^\n]*)\n  call void @llvm\.memset\.p0\.i64\(ptr (?:align \d+ )?\2, i8 -86, [^\n]*"
+MARK = b" sanitize_address"
 
 
 def kit_folder():
@@ -106,28 +114,44 @@ def link_kit(to, kit, clang):
 
 def build(room, folder):
     """Makes the program of such a repository, in this folder, and returns its path."""
-    kit, bitcode = kit_folder(), folder / "module.bc"
-    link_kit(folder / "kit", kit, KEEPING.format(kept=bitcode, clang=kit / "toolchain/bin/clang"))
+    make_bitcode(room, folder)
+    return compiled(folder)
+
+
+def make_bitcode(room, folder):
+    """Puts what rt try makes of such a repository into this folder: the program, and the words by which it would compile it."""
+    kit = kit_folder()
+    link_kit(folder / "kit", kit, KEEPING.format(sanitized=SANITIZED, kept=folder, clang=kit / "toolchain/bin/clang"))
     words = [folder / "kit/bin/rt", "try", "--steps", "1", "--seconds", "1"]
     how = {"stdin": subprocess.DEVNULL, "capture_output": True, "text": True, "errors": "replace"}
     tried = subprocess.run(words, cwd=room / "crates" / NAME, **how)
-    if not bitcode.exists():
+    if not (folder / "module.bc").exists():
         raise Failure("NOT BUILT", f"rt try ended with {tried.returncode}\n{tried.stdout}{tried.stderr}")
-    for words in compiling(kit, bitcode, folder / NAME):
-        made = subprocess.run(words, **how)
-        if made.returncode:
-            raise Failure("NOT BUILT", f"{words[0]} ended with {made.returncode}\n{made.stdout}{made.stderr}")
-    return folder / NAME
 
 
-def compiling(kit, bitcode, program):
-    """Returns the commands that make the program."""
-    compiled = program.with_suffix(".o")
-    linked = ["--target", "x86_64-unknown-linux-gnu", "--toolchain", kit / "toolchain", "-o", program, compiled]
-    return [
-        [kit / "toolchain/bin/ld.lld", "-r", "-o", compiled, bitcode, f"--lto-newpm-passes={PASSES}", "--lto-CGO0"],
-        [kit / "bin/rattle-link", *linked, kit / "c/libos_c.a", kit / "c/liblibc_c.a"],
-    ]
+def compiled(folder):
+    """Compiles and links what rt try made. Returns the program's path."""
+    kit, made, program = kit_folder(), folder / "module.ll", folder / NAME
+    clang, linked = kit / "toolchain/bin/clang", [kit / "c/libos_c.a", kit / "c/liblibc_c.a"]
+    run(clang, "--no-default-config", "-x", "ir", "-S", "-emit-llvm", "-O0", folder / "module.bc", "-o", made)
+    made.write_bytes(without_checks(made.read_bytes()))
+    others = {"module.bc": [made], "module.o": [folder / "module.o"], "-O0": BRIEFLY, SANITIZED: []}
+    words = (folder / "words").read_text(encoding="utf-8").splitlines()
+    run(clang, *(it for word in words for it in others.get(word, [word])))
+    target = ["--target", "x86_64-unknown-linux-gnu", "--toolchain", kit / "toolchain"]
+    run(kit / "bin/rattle-link", *target, "-o", program, folder / "module.o", *linked)
+    return program
+
+
+def run(*words):
+    made = subprocess.run(words, stdin=subprocess.DEVNULL, capture_output=True, text=True, errors="replace", check=False)
+    if made.returncode:
+        raise Failure("NOT BUILT", f"{words[0]} ended with {made.returncode}\n{made.stdout}{made.stderr}")
+
+
+def without_checks(text):
+    """Returns a program, as LLVM's text, without what rt try put into it."""
+    return re.sub(PATTERNS, rb"\1", re.sub(CHECKS, b"", text)).replace(MARK, b"")
 
 
 @contextlib.contextmanager
