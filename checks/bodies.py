@@ -9,8 +9,8 @@ export may find no memory, so only examples refuse them. Three the prover refuse
 `forgets_the_timed_out` show that the rounds over disks that stop find such a server, `repeat_leaves_the_moment` that the
 examples of idle uploads do. Each is in force only where the abstract of the configuration is its name, or, where the
 configuration isn't at hand, at a number that no example file has. So one build plays for each a file that refuses it, with
-that abstract and with another one, or an example with that number and with another one: there all has to be as it is
-written.
+that abstract, or an example with that number. The first example that comes otherwise is then played with another abstract,
+or number: there it has to be as it is written.
 
 CRATE/NAME is an edit NAME.edit of crates/CRATE/must-fail or wrong-bodies. It is played over the files, each behind
 texts.txt (by default all that checks/player/args names), of which one has to refuse it. The prover may refuse it too:
@@ -65,11 +65,15 @@ def with_abstract(file, abstract):
 
 def with_number(file, number, title, kind, before):
     """The texts that all files share, and the example of a file that has this title, with this number in the place of 1."""
-    front, *examples = read(file).split("\n# ")
-    example = next(it for it in examples if it.partition("\n")[0] == title)
-    lines = f"next {kind} {number}\nlet {kind} {number}"
-    played = f"{front}\n# {title}\n{lines}\n{example.partition(chr(10))[2]}\n"
-    return tuple(re.sub(rf"{before}1\b", f"{before}{number}", it) for it in (read("texts.txt"), played))
+    lines = f"# {title}\nnext {kind} {number}\nlet {kind} {number}"
+    texts = read("texts.txt"), example_of(read(file), title).replace(f"# {title}", lines)
+    return tuple(re.sub(rf"{before}1\b", f"{before}{number}", it) for it in texts)
+
+
+def example_of(text, title):
+    """The text of a file, of whose examples only this one is there."""
+    front, *examples = text.split("\n# ")
+    return "\n# ".join([front, *(it for it in examples if it.partition("\n")[0] == title)]) + "\n"
 
 
 def cases_of(body):
@@ -92,21 +96,27 @@ def told(printed):
     return next((line for line in printed.splitlines() if re.match(r"\S+:\d+: ", line)), printed)
 
 
+def is_refused(program, body):
+    """Tries a body of the build that all share. Returns whether it is refused, and what is to be printed of it."""
+    (texts, case), (other_texts, other) = cases_of(body)
+    status, printed = played(program, (texts, case))
+    title = re.match(r'case:\d+: "(.*?)", (?:row |in )', told(printed))
+    if status not in (1, 2) or not title:
+        return False, f"NOT REFUSED: {body}: status {status}\n{printed}"
+    beside, others = played(program, (other_texts, example_of(other, title[1])))
+    if beside or "case: 1 examples" not in others:
+        return False, f"NOT REFUSED: {body}: status {beside} without it\n{printed}{others}"
+    return True, f"refused: {body}, by {PLAYED[body]}: {told(printed)}\n"
+
+
 def try_together():
     """Tries the bodies that share a build. Returns how many are refused, and how many not."""
     program, bodies = built_player(), [it.stem for it in shared_edits()]
-    cases = [case for body in bodies for case in cases_of(body)]
-    once = list(dict.fromkeys(cases))
     with ThreadPoolExecutor(os.cpu_count()) as pool:
-        came = dict(zip(once, pool.map(lambda it: played(program, it), once)))
-    refused = 0
-    for body, case, beside in zip(bodies, cases[::2], cases[1::2]):
-        (status, printed), (other, others) = came[case], came[beside]
-        if status in (1, 2) and other == 0:
-            refused += 1
-            print(f"refused: {body}, by {PLAYED[body]}: {told(printed)}")
-        else:
-            print(f"NOT REFUSED: {body}: status {status}, and {other} without it\n{printed}{others}", end="")
+        found = list(pool.map(lambda it: is_refused(program, it), bodies))
+    for _, told_of_it in found:
+        print(told_of_it, end="")
+    refused = sum(it for it, _ in found)
     return refused, len(bodies) - refused
 
 
