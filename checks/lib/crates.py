@@ -41,10 +41,11 @@ def layers(file=ROOT / "crates.txt"):
 
 def libraries_below(name, lines):
     """Returns the repository's own libraries that the crate stands on, at any depth."""
-    found = set()
-    for below in lines[name].partition(":")[2].split():
-        if below in lines:
-            found |= {below} | libraries_below(below, lines)
+    found, unread = set(), [name]
+    while unread:
+        below = set(lines[unread.pop()].partition(":")[2].split()) & set(lines) - found
+        found |= below
+        unread += below
     return found
 
 

@@ -4,11 +4,11 @@ of it.
 Its crates stand in checks/player, under names that the gate doesn't take for sources. `rt try` makes the program of these and
 of the product's crates as they stand, without a look at any proof, but would then compile it slowly, for its own checks. So
 it is given a copy of the kit's folder, by links, whose clang keeps what rt try made and stops it; the kit's own tools make
-the program of that. The wrong bodies of checks/bodies are in the same build, where no example file can meet them
+the program of that, without the checks that rt try put into it. The wrong bodies of checks/bodies are in the same build, where no example file can meet them
 (checks/bodies.py), so that one build serves all checks.
 
-It is kept in checks/player/out and made anew once anything that it is made of has
-changed; a check that wants it meanwhile waits.
+It is kept in checks/player/out, and made anew once anything that it is made of has changed; a check that wants it meanwhile
+waits.
 """
 
 import contextlib
@@ -37,7 +37,7 @@ exec '{clang}' "$@"
 """
 # How it is compiled instead: with the least sum of seconds for the build and for all that is played. A function with large
 # variables goes into no other, since LLVM takes minutes where many of these meet.
-BRIEFLY = ["-O1", "-mllvm", "-inline-max-stacksize=1000"]
+BRIEFLY = ["-O1", "-mllvm", "-inline-max-stacksize=500", "-mllvm", "-inline-threshold=60"]
 # What rt try puts in beside the program's own: a pattern in each new variable, checks of what is undefined in Rust, and a mark
 # for the sanitizer. The gate proves that none is needed, and a proved program has none.
 CHECKS = rb'\n  call void @"rattle-llvm-checks::(?!Unreachable)[^\n]*'
