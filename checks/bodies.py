@@ -44,7 +44,8 @@ PLAYED = {"always_500": "one-file.txt", "always_503": "one-file.txt", "asks_find
           "repeat_leaves_the_moment": "repeated-segments.txt", "replies_before_it_commits": "stopped-disks.txt"}
 # These don't know the configuration: the example of their file that is played, and what its number is of.
 NUMBERED = {"export_finds_no_memory": ("an object without files has an empty folder data", "object", "export "),
-            "repeat_leaves_the_moment": ("the upload stays by one segment that comes again, hour after hour", "upload", "/staging/")}
+            "repeat_leaves_the_moment": ("the upload stays by one segment that comes again, hour after hour", "upload",
+                                         "/staging/")}
 # The number at which they are in force, and another one.
 NUMBER, OTHER_NUMBER = 9, 8
 WITHOUT = "no_wrong_body"

@@ -1,11 +1,11 @@
 """The player of example files, a program that is built unproved: it is a test and promises nothing, so the gate knows nothing
 of it.
 
-Its crates stand in checks/player, under names that the gate doesn't take for sources. `rt try` makes the program of these and
-of the product's crates as they stand, without a look at any proof, but would then compile it slowly, for its own checks. So
-it is given a copy of the kit's folder, by links, whose clang keeps what rt try made and stops it; the kit's own tools make
-the program of that, without the checks that rt try put into it. The wrong bodies of checks/bodies are in the same build, where no example file can meet them
-(checks/bodies.py), so that one build serves all checks.
+Its crates stand in checks/player, under names that the gate doesn't take for sources. `rt try` makes the program of these
+and of the product's crates as they stand, without a look at any proof, but would then compile it slowly, for its own checks.
+So it is given a copy of the kit's folder, by links, whose clang keeps what rt try made and stops it. The kit's own tools then
+make the program of that, without the checks that rt try put into it. The wrong bodies of checks/bodies are in the same build,
+where no example file can meet them (checks/bodies.py), so that one build serves all checks.
 
 It is kept in checks/player/out, and made anew once anything that it is made of has changed; a check that wants it meanwhile
 waits.
@@ -197,6 +197,6 @@ def player_of(edit):
 
 def play(program, files, **how):
     """Plays files by the program. Returns its status and what it printed."""
-    ran = subprocess.run([program, *files], stdin=subprocess.DEVNULL, stdout=subprocess.PIPE, stderr=subprocess.STDOUT, text=True,
-                         errors="replace", check=False, **how)
+    said = {"stdout": subprocess.PIPE, "stderr": subprocess.STDOUT, "text": True, "errors": "replace"}
+    ran = subprocess.run([program, *files], stdin=subprocess.DEVNULL, check=False, **said, **how)
     return ran.returncode, ran.stdout
