@@ -1,7 +1,7 @@
 #!/usr/bin/env python3
 """Plays files of examples against the second server of the profile (checks/lib/model.py).
 
-    checks/examples.py crates/examples/data/texts.txt crates/examples/data/deposits.txt
+    checks/examples.py checks/examples/texts.txt checks/examples/deposits.txt
 
 docs/EXAMPLES.md says how a file is written. Examples whose lines need the server of this repository itself (a reader or
 a writer that fails, a statement of SQL) are left out and counted. Where files fail or stop, an example is played as if

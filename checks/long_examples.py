@@ -1,5 +1,5 @@
 #!/usr/bin/env python3
-"""Writes the example files that are too long to be written by hand, into crates/examples/data.
+"""Writes the example files that are too long to be written by hand, into checks/examples.
 
     checks/long_examples.py
     checks/long_examples.py --check        # says whether the files are as they would be written

@@ -1,5 +1,5 @@
 #!/usr/bin/env python3
-"""The store of version 1 that crates/examples/data/older-stores.txt has as SQL, its text `version-1`.
+"""The store of version 1 that checks/examples/older-stores.txt has as SQL, its text `version-1`.
 
     checks/older_store.py FILE               makes the database FILE by the statements of the text
     checks/older_store.py --anew             has a program of version 1 make the store, and writes the text from it

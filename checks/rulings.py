@@ -1,5 +1,5 @@
 #!/usr/bin/env python3
-"""Writes the examples on the order of refusals: crates/examples/data/order.txt.
+"""Writes the examples on the order of refusals: checks/examples/order.txt.
 
     checks/rulings.py
     checks/rulings.py --check        # says whether the file is as it would be written

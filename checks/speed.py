@@ -17,7 +17,7 @@ what an open of the store takes by itself. In the end, or by --digests alone, it
   the same of SHA-256. Without openssl it says that this is skipped.
 - with PROGRAM, a swordd that computes none (of version 1): how much longer a deposit of 16 MiB takes than one by it.
 - the first open of a store of version 1 with 512 MiB, which Python's sqlite3 makes by the statements of
-  crates/examples/data/older-stores.txt: what makes it a store of version 2, which is what the first audit takes above the
+  checks/examples/older-stores.txt: what makes it a store of version 2, which is what the first audit takes above the
   next one, takes at most twice what `sha512sum` takes for the same bytes, and one audit. Where the store stays one of version 1, it says that this is
   skipped.
 

@@ -7,8 +7,10 @@ import sys
 from pathlib import Path
 
 ROOT = Path(__file__).resolve().parent.parent.parent
-# The files of examples.
-DATA = ROOT / "crates/examples/data"
+# The files of examples, their player, and the wrong bodies that they refuse.
+DATA = ROOT / "checks/examples"
+PLAYER = ROOT / "checks/player"
+BODIES = ROOT / "checks/bodies"
 PARTS = ("src", "specs", "proofs")
 # Second names of programs, by which they do something else.
 SECOND_NAMES = {"swordd_host": "swordd"}
@@ -39,23 +41,24 @@ def layers(file=ROOT / "crates.txt"):
 
 def libraries_below(name, lines):
     """Returns the repository's own libraries that the crate stands on, at any depth."""
-    found = set()
-    for below in lines[name].partition(":")[2].split():
-        if below in lines:
-            found |= {below} | libraries_below(below, lines)
+    found, unread = set(), [name]
+    while unread:
+        below = set(lines[unread.pop()].partition(":")[2].split()) & set(lines) - found
+        found |= below
+        unread += below
     return found
 
 
 def built_program(name):
     """Returns the whole path of a program: the one that the gate or deploy/build built, or the one that the environment names under
-    the name in capitals (SWORDD, SWORDD_HOST, EXAMPLES). Where there is none, this program ends."""
+    the name in capitals (SWORDD, SWORDD_HOST). Where there is none, this program ends."""
     crate = SECOND_NAMES.get(name, name)
     built = ROOT / "crates" / crate / "out" / name
     if name != crate and built.with_name(crate).exists():
         name_second(built.with_name(crate), built)
     path = Path(os.environ.get(name.upper()) or built).absolute()
     if not os.access(path, os.X_OK):
-        print(f"{path} isn't there: build it by {'deploy/build' if crate == 'swordd' else 'rt ci'}", file=sys.stderr)
+        print(f"{path} isn't there: build it by deploy/build", file=sys.stderr)
         sys.exit(2)
     return path
 

@@ -8,7 +8,7 @@ import re
 from typing import NamedTuple
 
 import model
-from crates import DATA, ROOT
+from crates import DATA, PLAYER, ROOT
 
 # How many examples of each file no socket brings about.
 NO_SOCKET = ROOT / "checks/no_socket.txt"
@@ -291,8 +291,8 @@ def is_of_a_host(path):
 
 
 def listed_files():
-    """The files that the gate plays, texts.txt first."""
-    return [DATA / it for it in (DATA.parent / "args").read_text(encoding="utf-8").split()]
+    """The files that the player plays, texts.txt first."""
+    return [DATA / it for it in (PLAYER / "args").read_text(encoding="utf-8").split()]
 
 
 def counts_in(path):
@@ -301,8 +301,8 @@ def counts_in(path):
 
 
 def counts_over_sockets():
-    """How many examples of each file are played over sockets: all that the gate counts, but for those that no socket brings about."""
-    counts = counts_in(DATA.parent / "stdout")
+    """How many examples of each file are played over sockets: all that the player counts, but for those that no socket brings about."""
+    counts = counts_in(PLAYER / "stdout")
     for name, count in counts_in(NO_SOCKET).items():
         counts[name] -= count
     return counts

@@ -1,4 +1,4 @@
-"""The store of version 1 that crates/examples/data/older-stores.txt has as SQL, its text `version-1`."""
+"""The store of version 1 that checks/examples/older-stores.txt has as SQL, its text `version-1`."""
 
 from crates import DATA
 from example_play import fill, texts_of
