@@ -57,7 +57,7 @@ def shared_edits():
 
 def lay_out(room, edits):
     """Makes the folder a repository of the player and of all that it stands on, with the edits made."""
-    lines = {**listed_crates(), **listed_crates(PLAYER / "crates.txt")}
+    lines = {**listed_crates(), **listed_crates(PLAYER / "libraries.txt")}
     names = [it for it in lines if it == NAME or it in libraries_below(NAME, lines)]
     begin_room(room, names, lines)
     for name in names:
