@@ -43,6 +43,9 @@ def segments():
 
 # So many milliseconds may another client wait at most. One that is seldom longer is measured up to TRIES times.
 MOST, TRIES = 100, 5
+# An idle machine sums up so many squares in so many seconds. Where one takes longer, as beside the other checks, others may wait
+# longer by as much.
+SQUARES, USUAL = 1_000_000, 0.1
 SIZE, SEGMENT_SIZE, TEXTS, NOTHING = 64 * MIB, 16 * MIB, 400_000, 10_000
 # Beside the large upload there are so many of this size. Where they, or it, are hashed already, a request for their digests takes
 # so many seconds of the processor at most; else it takes twice as many and more.
@@ -90,11 +93,18 @@ def waited(host, *request):
     return other.longest
 
 
+def slowness():
+    """How many times as long as an idle machine this one takes just now, at least once."""
+    began = time.monotonic()
+    sum(it * it for it in range(SQUARES))
+    return max(1, (time.monotonic() - began) / USUAL)
+
+
 def is_short(what, measure):
-    """Another client hardly waits by this measure. Returns how long it did."""
+    """Another client hardly waits by this measure. Returns how long it would have waited on an idle machine."""
     shortest = 1e9
     for _ in range(TRIES):
-        shortest = min(shortest, measure())
+        shortest = min(shortest, measure() / slowness())
         if shortest <= MOST:
             break
     expect(f"whether others wait at most {MOST} ms for {what}, {shortest:.0f} ms", shortest <= MOST, True)
