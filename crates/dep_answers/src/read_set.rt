@@ -7,9 +7,8 @@ ghost use Rattle.dep_answers.specs.ReadSets.{read_set_at, read_set_in_bag, read_
 use crate::performed::FileId;
 use dep_bag::{TagFile, file_number, tag_file};
 use dep_manifest::Algorithm;
-use dep_operations::Numbers;
 use dep_types::{
-    Counters, FileRow, Metadata, Method, ObjectRow, ObjectView, Resource, Target, UploadRow,
+    Counters, FileRow, List, Metadata, Method, ObjectRow, ObjectView, Resource, Target, UploadRow,
 };
 
 /// What has to be read of the archive for a reply.
@@ -59,7 +58,7 @@ pub enum Shown {
         /// The upload's row.
         upload: UploadRow,
         /// The numbers of the segments that were received, ascending.
-        received: Numbers,
+        received: List<u64>,
     },
 }
 

@@ -5,9 +5,8 @@ ghost use Rattle.dep_answers.specs.Reported.{reported_upload, reported_opened, o
 use crate::answer::{Answer, ReplyText};
 use crate::read_set::Shown;
 use dep_docs_out::{upload_doc, upload_url};
-use dep_operations::Numbers;
 use dep_reply::Status;
-use dep_types::{Config, Text, UploadRow};
+use dep_types::{Config, List, Text, UploadRow};
 use std::alloc::{AllocError, Global};
 
 /// The document of a staged upload (SWORD 3.0, segmented upload).
@@ -54,7 +53,7 @@ fn document(
     alloc: Global,
     config: &Config,
     upload: &UploadRow,
-    received: &Numbers,
+    received: &List<u64>,
 ) -> Result<Option<ReplyText>, AllocError>
     ensures { IfOk result
         (λ content. content ≡ ordered_upload config.now upload.now received.now) }

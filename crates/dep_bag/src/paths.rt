@@ -16,7 +16,7 @@ use dep_manifest::{
     TAG_MANIFEST_SHA512, payload_path,
 };
 use dep_octets::{Number, decimal};
-use dep_types::{FileRow, ObjectView, Text, TextList};
+use dep_types::{FileRow, List, ObjectView, Text};
 use itoa::Buffer;
 use std::alloc::{AllocError, Global};
 
@@ -36,7 +36,7 @@ const GREATEST_KEY: u64 = 9_223_372_036_854_775_807;
 
 /// Returns the paths of an object's bag, in the order of its list: the tag files, then the payload by
 /// ascending file number (RFC 8493, section 2).
-pub fn bag_paths(alloc: Global, view: &ObjectView) -> Result<TextList, AllocError>
+pub fn bag_paths(alloc: Global, view: &ObjectView) -> Result<List<Text>, AllocError>
     ensures { IfOk result (λ paths. paths ≡ reported_paths view.now) }
 {
     let mut paths = Vec::new(alloc);
@@ -44,7 +44,7 @@ pub fn bag_paths(alloc: Global, view: &ObjectView) -> Result<TextList, AllocErro
     for row in view.files.as_slice() {
         paths.push(payload_path(alloc, row)?)?;
     }
-    Ok(TextList::from_vec(paths))
+    Ok(List::from_vec(paths))
 }
 
 fn add_tag_paths(alloc: Global, paths: &mut Vec<Text>) -> Result<(), AllocError>

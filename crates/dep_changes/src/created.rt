@@ -13,10 +13,10 @@ ghost use Rattle.dep_changes.specs.Reported.{ReportsDeposit, ReportsNewFile, Rep
 use crate::change::{Change, NumberedDeposit, NumberedFiles, touched_object};
 use crate::new_files::{FileNumbers, row_of};
 use dep_decisions::{Deposit, NewFile};
-use dep_types::{FileRow, FileRows, Metadata, ObjectRow, ObjectView, Sha512s, StoreFault};
+use dep_types::{FileRow, List, Metadata, ObjectRow, ObjectView, StoreFault};
 
 // The rows of the files of a new object, under the next numbers in their order.
-fn new_rows(numbered: &NumberedFiles<'_>, object: u64) -> Result<FileRows, StoreFault>
+fn new_rows(numbered: &NumberedFiles<'_>, object: u64) -> Result<List<FileRow>, StoreFault>
     ensures reported { (s : State) → ReportsDeposit numbered.now.change.now s (Files numbered.now.files.now)
         → IfOk result (λ rows.
         rows ≡ new_rows s numbered.now.change.now.content.now object numbered.now.files.now) }
@@ -32,7 +32,7 @@ fn new_rows(numbered: &NumberedFiles<'_>, object: u64) -> Result<FileRows, Store
         let row = row_of(change, numbers, new, index)?;
         rows.push(row)?;
     }
-    Ok(FileRows::new(rows))
+    Ok(List::from_vec(rows))
 }
 
 /// Returns the object of this row and its files, as they are shown once it has this deposit alone.
@@ -53,14 +53,14 @@ pub(crate) fn filled_view(
                 object: row,
                 metadata: Metadata::new(change.alloc),
                 files: rows,
-                sha512s: Sha512s::new(Vec::new(change.alloc)),
+                sha512s: List::empty(change.alloc),
             })
         }
         Deposit::Metadata(_) => Ok(ObjectView {
             object: row,
             metadata: Metadata::new(change.alloc),
-            files: FileRows::new(Vec::new(change.alloc)),
-            sha512s: Sha512s::new(Vec::new(change.alloc)),
+            files: List::empty(change.alloc),
+            sha512s: List::empty(change.alloc),
         }),
     }
 }

@@ -9,13 +9,13 @@ ghost use Rattle.dep_decisions.specs.Purposes.{kind_for};
 ghost use Rattle.dep_decisions.specs.declared.decision.Decision.TheVariants.{Show};
 ghost use Rattle.dep_decisions.specs.declared.decision.Deposit.TheVariants.{Files, Metadata as MetadataOf};
 
-use crate::decision::{Decision, Deposit, NewFile, NewFiles, Source};
+use crate::decision::{Decision, Deposit, NewFile, Source};
 use crate::operation::Operation;
 use crate::purpose::{Purpose, is_completion, is_true};
-use dep_docs_in::{DEFAULT_MEDIA, Pointed, Reference, References};
+use dep_docs_in::{DEFAULT_MEDIA, Pointed, Reference};
 use dep_fields::Field;
 use dep_fixity::Digests;
-use dep_types::{Metadata, Method, Resource, Text};
+use dep_types::{List, Metadata, Method, Resource, Text};
 use std::alloc::{AllocError, Global};
 
 /// What was read of a content.
@@ -34,7 +34,7 @@ pub fn decision_on(
     alloc: Global,
     operation: &Operation<'_>,
     purpose: Option<Purpose<'_>>,
-    references: Option<&References>,
+    references: Option<&List<Reference>>,
     read: ReadContent,
 ) -> Result<Decision, AllocError>
     requires purpose { option_map kind_for purpose ≡ kind_of operation.now }
@@ -55,7 +55,7 @@ fn decision_for(
     alloc: Global,
     operation: &Operation<'_>,
     purpose: Purpose<'_>,
-    references: Option<&References>,
+    references: Option<&List<Reference>>,
     read: ReadContent,
 ) -> Result<Decision, AllocError>
     requires purpose { Some (kind_for purpose) ≡ kind_of operation.now }
@@ -97,7 +97,7 @@ fn filed(
     let new = posted_file(alloc, operation, name, digests)?;
     match operation.target.resource {
         Resource::File(object, file) => Ok(Decision::SetFile { object, file, new }),
-        _ => Ok(deposited(operation, Deposit::Files(NewFiles::one(alloc, new)?))),
+        _ => Ok(deposited(operation, Deposit::Files(List::one(alloc, new)?))),
     }
 }
 
@@ -118,7 +118,7 @@ fn described(operation: &Operation<'_>, metadata: Option<Metadata>) -> Decision
 fn referred(
     alloc: Global,
     operation: &Operation<'_>,
-    references: Option<&References>,
+    references: Option<&List<Reference>>,
 ) -> Result<Decision, AllocError>
     ensures { IfOk result (λ d. d ≡ unwrap_or (option_map
         (λ entries. referred_at operation.now entries)
@@ -201,7 +201,7 @@ fn dropped(alloc: Global, resource: &Resource) -> Decision
         },
         Resource::FileSet(object) => Decision::SetFiles {
             object,
-            files: NewFiles::none(alloc),
+            files: List::empty(alloc),
         },
         Resource::File(object, file) => Decision::DropFile { object, file },
         Resource::Upload(upload) => Decision::DropUpload { upload },
@@ -268,7 +268,7 @@ fn referred_files(
     alloc: Global,
     operation: &Operation<'_>,
     references: &[Reference],
-) -> Result<NewFiles, AllocError>
+) -> Result<List<NewFile>, AllocError>
     ensures { IfOk result (λ files. files ≡ referred_files operation.now references.now) }
 {
     let mut files = Vec::new(alloc);
@@ -277,7 +277,7 @@ fn referred_files(
             files.push(assembled_file(alloc, operation, reference, upload)?)?;
         }
     }
-    Ok(NewFiles::from_vec(files))
+    Ok(List::from_vec(files))
 }
 
 // An upload as a file.

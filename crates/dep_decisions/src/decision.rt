@@ -2,9 +2,7 @@
 
 use dep_fields::Opening;
 use dep_fixity::Digests;
-use dep_types::{Metadata, Text};
-use std::alloc::{AllocError, Global};
-use std::marker::Model;
+use dep_types::{List, Metadata, Text};
 
 /// Where the bytes of a new file come from.
 #[derive(Clone, Copy)]
@@ -28,69 +26,11 @@ pub struct NewFile {
     pub behalf: Option<Text>,
 }
 
-/// Files that are deposited, which contracts see as their list.
-#[derive(Drop)]
-pub struct NewFiles {
-    files: Vec<NewFile>,
-}
-
-impl Model for NewFiles {
-    ghost use Rattle.std.specs.Prelude.{List};
-    ghost use Rattle.dep_decisions.specs.declared.decision.NewFile.{NewFile};
-
-    ghost Value = { List NewFile };
-
-    ghost view = { λ n. n.files.items };
-}
-
-impl NewFiles {
-    ghost use Rattle.std.specs.Prelude.{◌≡◌, ◌∷◌, [], IfOk};
-
-    /// No file. It takes no memory.
-    pub fn none(alloc: Global) -> NewFiles
-        ensures { result ≡ [] }
-    {
-        NewFiles {
-            files: Vec::new(alloc),
-        }
-    }
-
-    /// One file. An `Err` is lack of memory.
-    pub fn one(alloc: Global, file: NewFile) -> Result<NewFiles, AllocError>
-        ensures { IfOk result (λ files. files ≡ file ∷ []) }
-    {
-        let mut files = Vec::new(alloc);
-        files.push(file)?;
-        Ok(NewFiles { files })
-    }
-
-    /// Takes the files over without a copy.
-    pub fn from_vec(files: Vec<NewFile>) -> NewFiles
-        ensures { result ≡ files.items }
-    {
-        NewFiles { files }
-    }
-
-    /// The files, in their order.
-    pub fn as_slice(&self) -> &[NewFile]
-        ensures { result.now ≡ self.now }
-    {
-        self.files.as_slice()
-    }
-
-    /// Hands the files over without a copy.
-    pub fn into_vec(self) -> Vec<NewFile>
-        ensures { result.items ≡ self }
-    {
-        self.files
-    }
-}
-
 /// What is deposited: files, or metadata.
 #[derive(Drop)]
 pub enum Deposit {
     /// These files.
-    Files(NewFiles),
+    Files(List<NewFile>),
     /// This metadata.
     Metadata(Metadata),
 }
@@ -129,7 +69,7 @@ pub enum Decision {
     /// The object has these files alone.
     SetFiles {
         object: u64,
-        files: NewFiles,
+        files: List<NewFile>,
     },
     /// The file of the object becomes this one, under its number.
     SetFile {

@@ -10,5 +10,5 @@ mod references;
 
 pub use fault::DocFault;
 pub use metadata::read_metadata;
-pub use reference::{DEFAULT_MEDIA, Pointed, Reference, References};
+pub use reference::{DEFAULT_MEDIA, Pointed, Reference};
 pub use references::read_references;

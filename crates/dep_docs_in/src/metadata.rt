@@ -8,7 +8,7 @@ ghost use Rattle.dep_docs_in.specs.Faults.{Gives, GivesBy};
 
 use crate::document::{document, has_type, text_in};
 use crate::fault::DocFault;
-use dep_types::{Metadata, Text, TextList, is_kept_name};
+use dep_types::{List, Metadata, Text, is_kept_name};
 use serde_json::{Map, Value};
 use std::alloc::Global;
 use std::slice;
@@ -60,7 +60,7 @@ fn keep(alloc: Global, metadata: &mut Metadata, name: &str, value: &Value) -> Re
 }
 
 // A text, or a list of texts.
-fn texts(alloc: Global, value: &Value) -> Result<TextList, DocFault>
+fn texts(alloc: Global, value: &Value) -> Result<List<Text>, DocFault>
     ensures { Gives result (texts_in (view value.now)) }
 {
     match value.as_array() {
@@ -69,12 +69,12 @@ fn texts(alloc: Global, value: &Value) -> Result<TextList, DocFault>
     }
 }
 
-fn listed(alloc: Global, values: &[Value]) -> Result<TextList, DocFault>
+fn listed(alloc: Global, values: &[Value]) -> Result<List<Text>, DocFault>
     ensures { Gives result (each_read as_str (items_view values.now)) }
 {
     let mut texts = Vec::new(alloc);
     for value in values {
         texts.push(text_in(alloc, value)?)?;
     }
-    Ok(TextList::from_vec(texts))
+    Ok(List::from_vec(texts))
 }

@@ -1,9 +1,7 @@
 //! What a document of references says.
-ghost use Rattle.std.specs.Prelude.{◌≡◌};
 
 use dep_fixity::DigestList;
 use dep_types::Text;
-use std::marker::Model;
 
 /// The media type of a file whose reference gives none (RFC 9110, section 8.3).
 pub const DEFAULT_MEDIA: &str = "application/octet-stream";
@@ -32,42 +30,4 @@ pub struct Reference {
     pub packaging: Option<Text>,
     /// The digests that are promised of it.
     pub digest: DigestList,
-}
-
-/// The entries of a document of references, which contracts see as their list.
-#[derive(Drop)]
-pub struct References {
-    entries: Vec<Reference>,
-}
-
-impl Model for References {
-    ghost use Rattle.std.specs.Prelude.{List};
-    ghost use Rattle.dep_docs_in.specs.declared.reference.Reference.{Reference};
-
-    ghost Value = { List Reference };
-
-    ghost view = { λ r. r.entries.items };
-}
-
-impl References {
-    /// Takes the entries over without a copy.
-    pub fn from_vec(entries: Vec<Reference>) -> References
-        ensures { result ≡ entries.items }
-    {
-        References { entries }
-    }
-
-    /// The entries, in their order.
-    pub fn as_slice(&self) -> &[Reference]
-        ensures { result.now ≡ self.now }
-    {
-        self.entries.as_slice()
-    }
-
-    /// Hands the entries over without a copy.
-    pub fn into_vec(self) -> Vec<Reference>
-        ensures { result.items ≡ self }
-    {
-        self.entries
-    }
 }

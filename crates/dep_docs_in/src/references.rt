@@ -9,11 +9,11 @@ ghost use Rattle.dep_docs_in.specs.Faults.{Gives};
 
 use crate::document::{document, has_type, items_of, text_in, text_of};
 use crate::fault::DocFault;
-use crate::reference::{DEFAULT_MEDIA, Pointed, Reference, References};
+use crate::reference::{DEFAULT_MEDIA, Pointed, Reference};
 use dep_fixity::{DigestList, read_digest_field};
 use dep_octets::positive_decimal;
 use dep_params::{Disposition, read_disposition};
-use dep_types::{Config, GREATEST_NUMBER, Text, is_media};
+use dep_types::{Config, GREATEST_NUMBER, List, Text, is_media};
 use serde_json::Value;
 use std::alloc::Global;
 use url::Url;
@@ -28,14 +28,18 @@ pub fn read_references(
     alloc: Global,
     config: &Config,
     content: &[u8],
-) -> Result<References, DocFault>
+) -> Result<List<Reference>, DocFault>
     ensures { Gives result (references_read config.now content.now) }
 {
     let document = document(alloc, content)?;
     references_of(alloc, config, &document)
 }
 
-fn references_of(alloc: Global, config: &Config, document: &Value) -> Result<References, DocFault>
+fn references_of(
+    alloc: Global,
+    config: &Config,
+    document: &Value,
+) -> Result<List<Reference>, DocFault>
     ensures { Gives result (references_of config.now (view document.now)) }
 {
     if !has_type(document, "ByReference") {
@@ -47,14 +51,18 @@ fn references_of(alloc: Global, config: &Config, document: &Value) -> Result<Ref
     }
 }
 
-fn entries_in(alloc: Global, config: &Config, entries: &[Value]) -> Result<References, DocFault>
+fn entries_in(
+    alloc: Global,
+    config: &Config,
+    entries: &[Value],
+) -> Result<List<Reference>, DocFault>
     ensures { Gives result (each_read (reference_in config.now) (items_view entries.now)) }
 {
     let mut references = Vec::new(alloc);
     for entry in entries {
         references.push(reference_in(alloc, config, entry)?)?;
     }
-    Ok(References::from_vec(references))
+    Ok(List::from_vec(references))
 }
 
 #[tactic(auto, unfolding(crate::specs::Documents::reference_in))]

@@ -15,7 +15,7 @@ ghost use Rattle.dep_files.specs.Causes.{FailsToLoad};
 
 use crate::streaming::stream_content;
 use dep_tables::{BlockOwner, Statements, files_of, find_sha512};
-use dep_types::{FileRow, FileRows, Octets, Sha512s, StoreFault, StreamFault, Through};
+use dep_types::{FileRow, List, Octets, StoreFault, StreamFault, Through};
 use sqlite::{Alter, Connection};
 use std::alloc::Global;
 
@@ -25,11 +25,11 @@ pub fn load_files<T: Statements>(
     tx: &mut T,
     alloc: Global,
     object: u64,
-) -> Result<FileRows, StoreFault>
+) -> Result<List<FileRow>, StoreFault>
     ensures does { ReadsMaps T.lenders T.state tx.old tx.new result (λ s found. found
         ≡ map (λ e. file_row object e.0 e.1) (finmap.entries (files_at s.objects object))) }
 {
-    Ok(FileRows::new(files_of(tx, alloc, object)?))
+    Ok(List::from_vec(files_of(tx, alloc, object)?))
 }
 
 // The SHA-512 of a file, which is there.
@@ -50,7 +50,7 @@ pub fn load_sha512s<T: Statements>(
     tx: &mut T,
     alloc: Global,
     rows: &[FileRow],
-) -> Result<Sha512s, StoreFault>
+) -> Result<List<[u8; 64]>, StoreFault>
     ensures does { MayFind T.lenders T.state tx.old tx.new result
         (λ s. IsTrue (T.state tx.old).is_open → (n : ℕ)
         → rows.now ≡ map (λ e. file_row n e.0 e.1) (finmap.entries (files_at s.objects n))
@@ -61,7 +61,7 @@ pub fn load_sha512s<T: Statements>(
         let value = load_sha512(tx, row.file)?;
         values.push(value)?;
     }
-    Ok(Sha512s::new(values))
+    Ok(List::from_vec(values))
 }
 
 fn of_object(found: Option<FileRow>, object: u64) -> Option<FileRow>

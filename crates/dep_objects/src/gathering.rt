@@ -9,7 +9,7 @@ ghost use Rattle.dep_row_maps.specs.Clauses.{Finds};
 ghost use Rattle.dep_objects.specs.Texts.{closed};
 
 use dep_tables::{MetadataRow, Statements, metadata_of};
-use dep_types::{Metadata, StoreFault, Text, TextList};
+use dep_types::{List, Metadata, StoreFault, Text};
 use std::alloc::Global;
 
 // A name with the texts that were read of it.
@@ -53,7 +53,7 @@ fn gather(
             last.texts.push(row.value)?;
             return Ok(last);
         }
-        metadata.insert(last.name, TextList::from_vec(last.texts))?;
+        metadata.insert(last.name, List::from_vec(last.texts))?;
     }
     begin(alloc, metadata, row)
 }
@@ -67,7 +67,7 @@ fn gathered(alloc: Global, rows: Vec<MetadataRow>) -> Result<Metadata, StoreFaul
         last = Some(gather(alloc, &mut metadata, last, row)?);
     }
     if let Some(last) = last {
-        metadata.insert(last.name, TextList::from_vec(last.texts))?;
+        metadata.insert(last.name, List::from_vec(last.texts))?;
     }
     Ok(metadata)
 }

@@ -14,6 +14,4 @@ pub use order::{decide, refusal_before_digests};
 pub use references::{segments_rule, state_rule};
 pub use ruling::Ruling;
 pub use touched::touches;
-pub use view::{
-    LiveUpload, Numbers, SegmentId, Touched, UploadState, UploadView, UploadViews, View,
-};
+pub use view::{LiveUpload, SegmentId, Touched, UploadState, UploadView, View};

@@ -9,9 +9,9 @@ ghost use Rattle.dep_operations.specs.Views.{uploads_named};
 
 use crate::view::{UploadState, UploadView, View};
 use dep_decisions::is_binary;
-use dep_docs_in::{Pointed, Reference, References};
+use dep_docs_in::{Pointed, Reference};
 use dep_fixity::{DigestList, check};
-use dep_types::{Refusal, UploadRow};
+use dep_types::{List, Refusal, UploadRow};
 use std::alloc::{AllocError, Global};
 use std::collections::BTreeSet;
 
@@ -32,7 +32,7 @@ pub(crate) enum UploadRule {
 pub(crate) fn references_rule(
     alloc: Global,
     view: &View,
-    references: Option<&References>,
+    references: Option<&List<Reference>>,
 ) -> Result<Option<Refusal>, AllocError>
     ensures { IfOk result
         (λ refusal. refusal ≡ references_refusal (in_view view.now) (option_copied references.entry)) }

@@ -8,12 +8,12 @@ ghost use Rattle.dep_decisions.specs.Rules.{behalf_rule, missing_refusal, openin
 ghost use Rattle.dep_operations.specs.Seen.{in_view, is_timed_out, live_in, row_length, tag_seen, upload_in};
 
 use crate::references::state_rule;
-use crate::view::{UploadState, UploadViews, View};
+use crate::view::{UploadState, View};
 use dep_decisions::{Operation, Purpose};
 use dep_fields::{Field, Opening};
 use dep_fixity::HashedOctets;
 use dep_tags::IfMatch;
-use dep_types::{Config, Refusal, Resource, UploadRow};
+use dep_types::{Config, List, Refusal, Resource, UploadRow};
 
 /// Rule 5: On-Behalf-Of.
 #[tactic(auto, unfolding(dep_decisions::specs::Rules::behalf_rule))]
@@ -53,7 +53,7 @@ fn not_found_unless(is_there: bool) -> Option<Refusal>
 }
 
 // Of the one upload that a Temporary-URL names.
-fn upload_rule(views: &UploadViews) -> Option<Refusal>
+fn upload_rule(views: &List<UploadView>) -> Option<Refusal>
     ensures { result ≡ missing_refusal (live_in (upload_in views.now)) (is_timed_out (upload_in views.now)) }
 {
     match views.as_slice() {

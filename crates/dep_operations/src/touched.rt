@@ -6,10 +6,10 @@ ghost use Rattle.dep_decisions.specs.Kinds.{kind_of};
 ghost use Rattle.dep_decisions.specs.Purposes.{kind_for};
 ghost use Rattle.dep_operations.specs.Views.{file_in, object_in, path_in, segment_in, touched_by, uploads_in, uploads_named};
 
-use crate::view::{Numbers, SegmentId, Touched};
+use crate::view::{SegmentId, Touched};
 use dep_decisions::{Operation, Purpose};
-use dep_docs_in::{DocFault, Pointed, Reference, References, read_references};
-use dep_types::{Config, Octets, Resource};
+use dep_docs_in::{DocFault, Pointed, Reference, read_references};
+use dep_types::{Config, List, Octets, Resource};
 use std::alloc::{AllocError, Global};
 
 /// Returns the numbers at which a request looks at the archive, whose content is for this purpose
@@ -44,7 +44,7 @@ fn references_for(
     config: &Config,
     operation: &Operation<'_>,
     purpose: Option<Purpose<'_>>,
-) -> Result<Option<References>, AllocError>
+) -> Result<Option<List<Reference>>, AllocError>
     requires { option_map kind_for purpose ≡ kind_of operation.now }
     ensures { IfOk result (λ references. references ≡ references_in config.now operation.now) }
 {
@@ -107,20 +107,20 @@ fn segment_in(resource: &Resource, purpose: Option<Purpose<'_>>) -> Option<Segme
 fn uploads_in(
     alloc: Global,
     resource: &Resource,
-    references: Option<&References>,
-) -> Result<Numbers, AllocError>
+    references: Option<&List<Reference>>,
+) -> Result<List<u64>, AllocError>
     ensures { IfOk result
         (λ uploads. uploads ≡ uploads_in resource.now (option_copied references.entry)) }
 {
     match (resource, references) {
-        (Resource::Upload(upload), _) => Ok(Numbers::from_vec(vec![in alloc; *upload]?)),
+        (Resource::Upload(upload), _) => Ok(List::from_vec(vec![in alloc; *upload]?)),
         (_, Some(references)) => uploads_named(alloc, references.as_slice()),
-        (_, None) => Ok(Numbers::from_vec(Vec::new(alloc))),
+        (_, None) => Ok(List::empty(alloc)),
     }
 }
 
 // The uploads that the entries point at, in their order.
-fn uploads_named(alloc: Global, references: &[Reference]) -> Result<Numbers, AllocError>
+fn uploads_named(alloc: Global, references: &[Reference]) -> Result<List<u64>, AllocError>
     ensures { IfOk result (λ uploads. uploads ≡ uploads_named references.now) }
 {
     let mut uploads = Vec::new(alloc);
@@ -129,5 +129,5 @@ fn uploads_named(alloc: Global, references: &[Reference]) -> Result<Numbers, All
             uploads.push(upload)?;
         }
     }
-    Ok(Numbers::from_vec(uploads))
+    Ok(List::from_vec(uploads))
 }

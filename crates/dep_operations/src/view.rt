@@ -1,38 +1,7 @@
 //! What a ruling looks at.
-ghost use Rattle.std.specs.Prelude.{◌≡◌, ℕ, List};
 
-use dep_docs_in::References;
 use dep_fixity::Digests;
-use dep_types::{Counters, FileRow, ObjectRow, Octets, UploadRow};
-use std::marker::Model;
-
-/// Numbers in an order, which contracts see as their list.
-#[derive(Drop)]
-pub struct Numbers {
-    numbers: Vec<u64>,
-}
-
-impl Model for Numbers {
-    ghost Value = { List ℕ };
-
-    ghost view = { λ n. n.numbers.items };
-}
-
-impl Numbers {
-    /// Takes the numbers over without a copy.
-    pub fn from_vec(numbers: Vec<u64>) -> Numbers
-        ensures { result ≡ numbers.items }
-    {
-        Numbers { numbers }
-    }
-
-    /// The numbers, in their order.
-    pub fn as_slice(&self) -> &[u64]
-        ensures { result.now ≡ self.now }
-    {
-        self.numbers.as_slice()
-    }
-}
+use dep_types::{Counters, FileRow, List, ObjectRow, Octets, UploadRow};
 
 /// A segment of an upload, by the numbers of both.
 #[derive(Clone, Copy)]
@@ -53,11 +22,11 @@ pub struct Touched {
     /// A path in the bag of that object.
     pub path: Option<Octets>,
     /// The numbers of uploads: that of the Temporary-URL, or those that the references name, in their order.
-    pub uploads: Numbers,
+    pub uploads: List<u64>,
     /// The segment that the content is sent as.
     pub segment: Option<SegmentId>,
     /// What the content refers to, where it is a document of references that can be read.
-    pub references: Option<References>,
+    pub references: Option<List<Reference>>,
 }
 
 /// An upload that is there: its row, and for a deposit by reference whether it is whole, and its digests.
@@ -91,37 +60,6 @@ pub struct UploadView {
     pub state: UploadState,
 }
 
-/// What is known at the numbers of uploads, which contracts see as their list.
-#[derive(Drop)]
-pub struct UploadViews {
-    views: Vec<UploadView>,
-}
-
-impl Model for UploadViews {
-    ghost use Rattle.std.specs.Prelude.{List};
-    ghost use Rattle.dep_operations.specs.declared.view.UploadView.{UploadView};
-
-    ghost Value = { List UploadView };
-
-    ghost view = { λ v. v.views.items };
-}
-
-impl UploadViews {
-    /// Takes the views over without a copy.
-    pub fn from_vec(views: Vec<UploadView>) -> UploadViews
-        ensures { result ≡ views.items }
-    {
-        UploadViews { views }
-    }
-
-    /// The views, in their order.
-    pub fn as_slice(&self) -> &[UploadView]
-        ensures { result.now ≡ self.now }
-    {
-        self.views.as_slice()
-    }
-}
-
 /// What a ruling looks at: the archive, at the numbers that a request touches.
 #[derive(Drop)]
 pub struct View {
@@ -136,9 +74,9 @@ pub struct View {
     /// Whether the bag of the object has the path that is touched.
     pub has_path: bool,
     /// The uploads that are touched, in the order of their numbers in [`Touched`].
-    pub uploads: UploadViews,
+    pub uploads: List<UploadView>,
     /// Where the segment that is touched was received before, whether its bytes are the content.
     pub repeats: Option<bool>,
     /// The references of [`Touched`].
-    pub references: Option<References>,
+    pub references: Option<List<Reference>>,
 }

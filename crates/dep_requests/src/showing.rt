@@ -12,8 +12,8 @@ use crate::performing::{Done, accept, delivery_at};
 use dep_answers::{Performed, Service, Shown, StoredFile, refused};
 use dep_decisions::{Operation, content_purpose};
 use dep_fields::Field;
-use dep_operations::{Ruling, UploadViews, View, decide};
-use dep_types::{Resource, StoreFault};
+use dep_operations::{Ruling, View, decide};
+use dep_types::{List, Resource, StoreFault};
 use std::alloc::Global;
 
 /// Whether the request reads the service document.
@@ -33,7 +33,7 @@ fn view_service(alloc: Global, cache: &Cache) -> View
         object: None,
         file: None,
         has_path: false,
-        uploads: UploadViews::from_vec(Vec::new(alloc)),
+        uploads: List::empty(alloc),
         repeats: None,
         references: None,
     }

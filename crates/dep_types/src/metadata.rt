@@ -5,40 +5,11 @@ ghost use Rattle.std.specs.Cmp.Lexicographic.{slice_cmp};
 ghost use Rattle.std.specs.List.Sorted.{IsSearchInRange};
 ghost use Rattle.dep_types.specs.MetadataEntries.{AreInOrder, IsPlaceOf};
 
+use crate::list::List;
 use crate::text::Text;
 use std::alloc::{AllocError, Global};
 use std::cmp::Ordering;
 use std::marker::Model;
-
-/// Texts in their order, which contracts see as their list.
-#[derive(Drop)]
-pub struct TextList {
-    texts: Vec<Text>,
-}
-
-impl Model for TextList {
-    ghost use Rattle.std.specs.Prelude.{ℕ, List};
-
-    ghost Value = { List (List ℕ) };
-
-    ghost view = { λ t. t.texts.items };
-}
-
-impl TextList {
-    /// Takes the texts over without a copy.
-    pub fn from_vec(texts: Vec<Text>) -> TextList
-        ensures { result ≡ texts.items }
-    {
-        TextList { texts }
-    }
-
-    /// The texts, in their order.
-    pub fn as_slice(&self) -> &[Text]
-        ensures { result.now ≡ self.now }
-    {
-        self.texts.as_slice()
-    }
-}
 
 /// A name of metadata, and the texts under it.
 #[derive(Drop)]
@@ -46,7 +17,7 @@ pub struct MetadataEntry {
     /// The name, as `dc:title`.
     pub name: Text,
     /// The texts, in the order in which they were given.
-    pub texts: TextList,
+    pub texts: List<Text>,
 }
 
 /// Metadata: under each name its texts. Contracts see it as the finite map from names, in the order of
@@ -95,7 +66,7 @@ impl Metadata {
     }
 
     /// Returns the texts under a name, or `None` where the name has none.
-    pub fn get(&self, name: &str) -> Option<&TextList>
+    pub fn get(&self, name: &str) -> Option<&List<Text>>
         ensures { option_copied result ≡ map.get self.now name.now }
     {
         match place_of(&self.entries, name) {
@@ -106,7 +77,7 @@ impl Metadata {
 
     /// Puts texts under a name, in place of those that were there. No name is moved where this one is behind
     /// all others. An `Err` is lack of memory, and changes nothing.
-    pub fn insert(&mut self, name: Text, texts: TextList) -> Result<(), AllocError>
+    pub fn insert(&mut self, name: Text, texts: List<Text>) -> Result<(), AllocError>
         ensures ok { OnOk result (self.new ≡ map.insert self.old name texts) }
         ensures err { OnErr result (self.new ≡ self.old) }
     {

@@ -1,9 +1,8 @@
 //! Objects, files and uploads, without the bytes of contents.
-ghost use Rattle.std.specs.Prelude.{◌≡◌};
 
+use crate::list::List;
 use crate::metadata::Metadata;
 use crate::text::Text;
-use std::marker::Model;
 
 /// An object, without its metadata and files.
 #[derive(Clone, Copy, Debug)]
@@ -66,67 +65,6 @@ pub struct UploadRow {
     pub last: u64,
 }
 
-/// The files of an object, which contracts see as the list of their rows.
-#[derive(Drop)]
-pub struct FileRows {
-    rows: Vec<FileRow>,
-}
-
-impl Model for FileRows {
-    ghost use Rattle.std.specs.Prelude.{List};
-    ghost use Rattle.dep_types.specs.declared.rows.FileRow.{FileRow};
-
-    ghost Value = { List FileRow };
-
-    ghost view = { λ r. r.rows.items };
-}
-
-impl FileRows {
-    /// Takes the rows over without a copy.
-    pub fn new(rows: Vec<FileRow>) -> FileRows
-        ensures { result ≡ rows.items }
-    {
-        FileRows { rows }
-    }
-
-    /// The rows, in their order.
-    pub fn as_slice(&self) -> &[FileRow]
-        ensures { result.now ≡ self.now }
-    {
-        self.rows.as_slice()
-    }
-}
-
-/// SHA-512 values (FIPS 180-4), which contracts see as their list.
-#[derive(Drop)]
-pub struct Sha512s {
-    values: Vec<[u8; 64]>,
-}
-
-impl Model for Sha512s {
-    ghost use Rattle.std.specs.Prelude.{ℕ, List};
-
-    ghost Value = { List (List ℕ) };
-
-    ghost view = { λ s. s.values.items };
-}
-
-impl Sha512s {
-    /// Takes the values over without a copy.
-    pub fn new(values: Vec<[u8; 64]>) -> Sha512s
-        ensures { result ≡ values.items }
-    {
-        Sha512s { values }
-    }
-
-    /// The values, in their order.
-    pub fn as_slice(&self) -> &[[u8; 64]]
-        ensures { result.now ≡ self.now }
-    {
-        self.values.as_slice()
-    }
-}
-
 /// An object as it is shown: its row, its metadata, and its files by ascending number.
 #[derive(Drop)]
 pub struct ObjectView {
@@ -135,7 +73,7 @@ pub struct ObjectView {
     /// Its metadata.
     pub metadata: Metadata,
     /// Its files.
-    pub files: FileRows,
+    pub files: List<FileRow>,
     /// The SHA-512 of each file, in their order, which stand in a table of their own.
-    pub sha512s: Sha512s,
+    pub sha512s: List<[u8; 64]>,
 }

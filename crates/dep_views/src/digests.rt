@@ -9,10 +9,10 @@ ghost use Rattle.dep_views.specs.Seen.{GetsDigests, IsUndigested, ReportsDigests
 
 use crate::view::LoadedView;
 use dep_fixity::Digests;
-use dep_operations::{LiveUpload, UploadState, UploadView, UploadViews};
+use dep_operations::{LiveUpload, UploadState, UploadView};
 use dep_staging::{RunningHashes, hash_some, hash_upload};
 use dep_tables::Statements;
-use dep_types::StoreFault;
+use dep_types::{List, StoreFault};
 use std::alloc::Global;
 
 /// Of so many uploads that a document names all is hashed before it is answered: of half as many as
@@ -67,7 +67,7 @@ fn hash_uploads<T: Statements>(
     alloc: Global,
     running: &mut RunningHashes,
     views: &[UploadView],
-) -> Result<UploadViews, StoreFault>
+) -> Result<List<UploadView>, StoreFault>
     ensures map { MayFind T.lenders T.state tx.old tx.new result
         (λ s. IsTrue (T.state tx.old).is_open → Hashes s running.old running.new
         (All (IsUndigested s) views.now
@@ -82,7 +82,7 @@ fn hash_uploads<T: Statements>(
         };
         hashed.push(with_digests)?;
     }
-    Ok(UploadViews::from_vec(hashed))
+    Ok(List::from_vec(hashed))
 }
 
 /// Hashes up to so many blocks of the uploads of these numbers, which references name, one after

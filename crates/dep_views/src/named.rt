@@ -11,17 +11,17 @@ ghost use Rattle.dep_views.specs.Seen.{state_seen};
 
 use crate::segments::is_whole;
 use crate::uploads::find_state;
-use dep_operations::{LiveUpload, UploadState, UploadView, UploadViews, segments_rule, state_rule};
+use dep_operations::{LiveUpload, UploadState, UploadView, segments_rule, state_rule};
 use dep_staging::{FoundRow, RunningHashes, find_staged};
 use dep_tables::Statements;
-use dep_types::{Refusal, StoreFault};
+use dep_types::{List, Refusal, StoreFault};
 use std::alloc::Global;
 
 /// The uploads that references name, or why they can't be deposited.
 #[derive(Drop)]
 pub enum Named {
     /// Each is there, and lacks no segment: what is known of them, in their order.
-    Whole(UploadViews),
+    Whole(List<UploadView>),
     /// The first that isn't there refuses the deposit, or else one that lacks a segment.
     Refused(Refusal),
 }
@@ -99,5 +99,5 @@ pub fn load_named<T: Statements>(
         views.push(view)?;
         rest = behind;
     }
-    Ok(Named::Whole(UploadViews::from_vec(views)))
+    Ok(Named::Whole(List::from_vec(views)))
 }

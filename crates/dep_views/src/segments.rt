@@ -6,21 +6,20 @@ ghost use Rattle.dep_row_maps.specs.Clauses.{MayFind};
 ghost use Rattle.dep_staging.specs.HashedAhead.{AreRunning};
 ghost use Rattle.dep_views.specs.Seen.{IsWholeAs};
 
-use dep_operations::Numbers;
 use dep_staging::RunningHashes;
 use dep_tables::{SegmentRow, Statements, segments_of};
-use dep_types::{StoreFault, UploadRow};
+use dep_types::{List, StoreFault, UploadRow};
 use std::alloc::{AllocError, Global};
 
 /// The numbers of these segments, in their order.
-pub(crate) fn numbers_of(alloc: Global, segments: &[SegmentRow]) -> Result<Numbers, AllocError>
+pub(crate) fn numbers_of(alloc: Global, segments: &[SegmentRow]) -> Result<List<u64>, AllocError>
     ensures ok { IfOk result (λ numbers. numbers ≡ map (λ segment. segment.number) segments.now) }
 {
     let mut numbers = Vec::new(alloc);
     for segment in segments {
         numbers.push(segment.number)?;
     }
-    Ok(Numbers::from_vec(numbers))
+    Ok(List::from_vec(numbers))
 }
 
 /// Whether the upload of this row lacks no segment. Of one that was hashed whole no row of a segment

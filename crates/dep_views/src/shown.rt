@@ -12,7 +12,7 @@ use dep_files::{find_file, load_files, load_sha512s};
 use dep_objects::{describe, find_object, load_object};
 use dep_staging::{FoundUpload, load_upload};
 use dep_tables::Statements;
-use dep_types::{Metadata, ObjectRow, ObjectView, Sha512s, StoreFault};
+use dep_types::{List, Metadata, ObjectRow, ObjectView, StoreFault};
 use std::alloc::Global;
 
 fn show_object<T: Statements>(tx: &mut T, alloc: Global, object: u64) -> Result<Shown, StoreFault>
@@ -39,7 +39,7 @@ fn show_listed<T: Statements>(
         object: row,
         metadata: Metadata::new(alloc),
         files,
-        sha512s: Sha512s::new(Vec::new(alloc)),
+        sha512s: List::empty(alloc),
     }))
 }
 
