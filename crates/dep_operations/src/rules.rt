@@ -8,7 +8,7 @@ ghost use Rattle.dep_decisions.specs.Rules.{behalf_rule, missing_refusal, openin
 ghost use Rattle.dep_operations.specs.Seen.{in_view, is_timed_out, live_in, row_length, tag_seen, upload_in};
 
 use crate::references::state_rule;
-use crate::view::{UploadState, View};
+use crate::view::{UploadState, UploadView, View};
 use dep_decisions::{Operation, Purpose};
 use dep_fields::{Field, Opening};
 use dep_fixity::HashedOctets;

@@ -1,5 +1,6 @@
 //! What a ruling looks at.
 
+use dep_docs_in::Reference;
 use dep_fixity::Digests;
 use dep_types::{Counters, FileRow, List, ObjectRow, Octets, UploadRow};
 
