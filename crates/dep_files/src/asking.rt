@@ -1,11 +1,14 @@
-//! A query that only shows, asked outside a transaction.
+//! A query that only shows, asked outside a transaction, and a number in what it shows.
 
-ghost use Rattle.std.specs.Prelude.{◌≡◌, ◌∷◌, [], ◌<◌, ◌^◌, pos, IfOk};
+ghost use Rattle.std.specs.Prelude.{◌≡◌, ◌∷◌, [], ◌<◌, ◌^◌, pos, IfOk, IfErr};
 ghost use Rattle.sqlite.specs.Held.{state};
+ghost use Rattle.sqlite.specs.Order.{column};
 ghost use Rattle.sqlite.specs.State.{HasCleanDisk, Shown};
 ghost use Rattle.sqlite.specs.Values.{bound};
 ghost use Rattle.sqlite.specs.declared.types.Value.TheVariants.{Int};
+ghost use Rattle.dep_types.specs.declared.store_fault.StoreFault.TheVariants.{Store};
 ghost use Rattle.dep_tables.specs.Clauses.{FailsToAsk};
+ghost use Rattle.dep_tables.specs.Rows.{HasAt, IsNumberValue};
 ghost use Rattle.dep_files.specs.Clauses.{OnlyReads, ReadsOver, FailsFor};
 
 use dep_tables::fault_of;
@@ -19,6 +22,18 @@ pub(crate) fn key_param(key: u64) -> [ValueRef<'static>; 1]
     ensures { bound result ≡ Int (pos key) ∷ [] }
 {
     [ValueRef::Int(key as i64)]
+}
+
+/// The number in this column of a row, from 0 on. Anything else there is a fault of the store.
+pub(crate) fn number_at(row: &Row, at: usize) -> Result<u64, StoreFault>
+    ensures reported { IfOk result (λ n. column row.now at ≡ Int (pos n)) }
+    ensures refused { IfErr result
+        (λ fault. (¬ (HasAt IsNumberValue row.now at)) × (fault ≡ Store)) }
+{
+    match row.get_ref(at) {
+        Ok(ValueRef::Int(n)) if n >= 0 => Ok(n as u64),
+        _ => Err(StoreFault::Store),
+    }
 }
 
 /// All rows of the query.

@@ -1,23 +1,20 @@
 //! Files whose bytes are not those that were deposited.
 
-ghost use Rattle.std.specs.Prelude.{◌≡◌, ◌≢◌, [], pos, IfOk, IfErr, OnOk, OnErr};
+ghost use Rattle.std.specs.Prelude.{◌≡◌, ◌≢◌, [], OnOk, OnErr};
 ghost use Rattle.sqlite.specs.Held.{state};
-ghost use Rattle.sqlite.specs.Order.{column};
-ghost use Rattle.sqlite.specs.declared.types.Value.TheVariants.{Int};
-ghost use Rattle.dep_types.specs.declared.store_fault.StoreFault.TheVariants.{Store};
 ghost use Rattle.dep_manifest.specs.Growing.{Grows};
-ghost use Rattle.dep_tables.specs.Rows.{HasAt, IsNumberValue};
 ghost use Rattle.dep_tables.specs.Tables.{IsOurs};
 ghost use Rattle.dep_files.specs.Clauses.{ReportsOver, ReadsOver, FailsOver};
 ghost use Rattle.dep_files.specs.Fixity.{HasFixity, IsAudited, KeepsDamaged, number_if_damaged};
 ghost use Rattle.dep_files.specs.Causes.{FailsToFindFixity, FailsToCheck, FailsToAudit};
 
+use crate::asking::number_at;
 use crate::hashing::hash_blocks;
 use crate::kept::{digest_at, find_sha512, list_sha256s};
 use crate::watch::Watch;
 use dep_fixity::Digests;
 use dep_manifest::{KeptDigests, note_damaged};
-use dep_tables::{BlockOwner, number_at};
+use dep_tables::BlockOwner;
 use dep_types::StoreFault;
 use sqlite::{Alter, Connection, Row};
 use std::alloc::{AllocError, Global};
@@ -45,14 +42,6 @@ struct FileFixity {
     digests: Digests,
 }
 
-fn file_in(row: &Row) -> Result<u64, StoreFault>
-    ensures reported { IfOk result (λ file. column row.now 0 ≡ Int (pos file)) }
-    ensures refused { IfErr result
-        (λ fault. (¬ (HasAt IsNumberValue row.now 0)) × (fault ≡ Store)) }
-{
-    number_at(row, 0).map_err(|_| StoreFault::Store)
-}
-
 fn find_fixity<S: Alter, W: Watch>(
     connection: &mut Connection<S>,
     row: &Row,
@@ -64,7 +53,7 @@ fn find_fixity<S: Alter, W: Watch>(
         (FailsToFindFixity row.now) }
     ensures reads { ReadsOver S.Store connection.old connection.new result }
 {
-    let file = file_in(row)?;
+    let file = number_at(row, 0)?;
     let sha512 = find_sha512(connection, BlockOwner::File(file))?;
     let digests = hash_blocks(connection, BlockOwner::File(file), watch)?;
     Ok(FileFixity {

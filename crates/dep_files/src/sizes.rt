@@ -2,6 +2,7 @@
 
 ghost use Rattle.std.specs.Prelude.{◌≡◌, IfOk, IfErr, map};
 ghost use Rattle.std.specs.Option.{option_to_list};
+ghost use Rattle.dep_types.specs.declared.store_fault.StoreFault.TheVariants.{Store};
 ghost use Rattle.dep_statements.specs.Rows.{columns_from};
 ghost use Rattle.dep_tables.specs.Tables.{IsOurs};
 ghost use Rattle.dep_tables.specs.Clauses.{AtMostOne, IsFaultAt};
@@ -9,10 +10,10 @@ ghost use Rattle.dep_files.specs.Clauses.{ReportsOver, ReadsOver, FailsFor};
 ghost use Rattle.dep_files.specs.Sizes.{IsSizeRow, IsSizeOf, size_values};
 ghost use Rattle.dep_files.specs.Causes.{FailsToFindSize};
 
-use crate::asking::{ask, key_param};
-use dep_tables::{LIMIT, number_at};
+use crate::asking::{ask, key_param, number_at};
+use dep_tables::LIMIT;
 use dep_types::StoreFault;
-use sqlite::{Alter, Connection, Error, Row};
+use sqlite::{Alter, Connection, Row};
 
 /// What has to be known of a file before its content is sent.
 #[derive(Clone, Copy, Debug, PartialEq, Eq)]
@@ -23,9 +24,9 @@ pub(crate) struct FileSize {
     pub(crate) size: u64,
 }
 
-fn size_in(row: &Row) -> Result<FileSize, Error>
+fn size_in(row: &Row) -> Result<FileSize, StoreFault>
     ensures reported { IfOk result (λ found. size_values found ≡ columns_from 0 2 row.now) }
-    ensures refused { IfErr result (λ _. ¬ (IsSizeRow row.now)) }
+    ensures refused { IfErr result (λ fault. (¬ (IsSizeRow row.now)) × (fault ≡ Store)) }
 {
     Ok(FileSize {
         object: number_at(row, 0)?,
@@ -40,7 +41,7 @@ fn only(rows: &[Row]) -> Result<Option<FileSize>, StoreFault>
 {
     match rows {
         [] => Ok(None),
-        [row] => size_in(row).map(Some).map_err(|_| StoreFault::Store),
+        [row] => Ok(Some(size_in(row)?)),
         _ => Err(StoreFault::Store),
     }
 }

@@ -1,6 +1,6 @@
 -- The bytes of contents, in blocks.
-use Rattle.std.proofs.Common.{◌≡◌, ℕ, ℤ, pos, List, [], ◌∷◌, map, filter, not, true, false, ◌&&◌, if◌then◌else◌, ◌++◌, Option, Ok, codes, Bool, refl, sym, ap, ◌∙◌}
-use Rattle.std.specs.Option.{option_to_list, option_map}
+use Rattle.std.proofs.Common.{◌≡◌, ℕ, ℤ, pos, List, [], ◌∷◌, map, filter, true, false, ◌&&◌, if◌then◌else◌, ◌++◌, Option, Ok, codes, Bool, refl, sym, ap, ◌∙◌}
+use Rattle.std.specs.Option.{option_to_list}
 use Rattle.std.specs.List.{list_any}
 use Rattle.std.proofs.lemmas.Bool.{and_parts, and_from}
 use Rattle.std.proofs.lemmas.Cmp.{back_total, on_total, then_total}
@@ -34,17 +34,17 @@ use Rattle.dep_statements.proofs.Edits.{key_of, has_its_key}
 use Rattle.dep_statements.proofs.Typed.{kept_integer, stored_column}
 use Rattle.dep_statements.proofs.Unique.{IsKey}
 use Rattle.dep_statements.proofs.Results.{changed_by}
-use Rattle.dep_statements.proofs.Written.{Inserts, Deletes, Updates, inserts_next, deletes_where, updates_where}
-use Rattle.dep_statements.proofs.Selected.{Asks, first_only, selects_all, selects_first}
+use Rattle.dep_statements.proofs.Written.{Inserts, Deletes, Updates, inserts_next, updates_where}
+use Rattle.dep_statements.proofs.Selected.{Asks, first_only, selects_first}
 use Rattle.dep_tables.specs.Schema.{our_schema, blocks_table}
 use Rattle.dep_tables.specs.Texts.{insert_block_text, delete_blocks_text, delete_run_text, move_blocks_text, move_run_text, read_block_text, first_block_text, last_block_text}
 use Rattle.dep_tables.specs.declared.owner.BlockOwner.{BlockOwner}
 use Rattle.dep_tables.specs.declared.owner.BlockKey.{BlockKey}
 use Rattle.dep_tables.specs.declared.owner.BlockPlace.{BlockPlace}
-use Rattle.dep_tables.specs.Rows.{kind_of, number_of, owner_values, part_values, key_values, block_values, move_values, move_run_values, place_values, bytes_in, shown_place, shown_number, is_block, is_block_of, is_part_of, is_earlier_block, moved_to, by_part_and_place, by_falling_place}
+use Rattle.dep_tables.specs.Rows.{kind_of, number_of, owner_values, part_values, key_values, block_values, move_values, move_run_values, place_values, shown_place, shown_number, is_block, is_block_of, is_part_of, is_earlier_block, moved_to, by_part_and_place, by_falling_place}
 use Rattle.dep_tables.specs.Tables.{tables_of, IsOurs, Leads}
 use Rattle.dep_tables.proofs.Leading.{leads, blocks_at}
-use Rattle.dep_tables.proofs.Answered.{read_few, read_first}
+use Rattle.dep_tables.proofs.Answered.{read_first}
 
 insert_is : Inserts our_schema insert_block_text 8 (lit Null ∷ col 0 0 ∷ col 0 1 ∷ col 0 2 ∷ col 0 3 ∷ col 0 4 ∷ [])
 unfolding understood everything

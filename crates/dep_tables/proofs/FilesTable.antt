@@ -1,7 +1,5 @@
 -- The rows of the files.
-use Rattle.std.proofs.Common.{◌≡◌, ℕ, pos, List, [], ◌∷◌, map, filter, not, if◌then◌else◌, Option, None, Ok, refl}
-use Rattle.std.specs.Prelude.{option_map}
-use Rattle.std.specs.Option.{option_to_list}
+use Rattle.std.proofs.Common.{◌≡◌, ℕ, pos, List, [], ◌∷◌, map, filter, if◌then◌else◌, None, Ok, refl}
 use Rattle.sqlite_tied.specs.Compute.{everything}
 use Rattle.sqlite.specs.Listing.{understood}
 use Rattle.sqlite.specs.Rowids.TheVariants.{Chosen}
@@ -9,15 +7,15 @@ use Rattle.sqlite.specs.Order.{Row}
 use Rattle.sqlite.specs.Term.{Term, lit, col}
 use Rattle.sqlite.specs.State.{State, ExecutesInside, Shown}
 use Rattle.sqlite.specs.declared.types.Value.TheVariants.{Null, Int, Text, Blob}
-use Rattle.sqlite_trees.specs.Tree.{put_row, without_rowid}
+use Rattle.sqlite_trees.specs.Tree.{put_row}
 use Rattle.sqlite_rules.specs.Edit.{with_rowid}
-use Rattle.dep_statements.specs.Query.{equals, no_limit}
+use Rattle.dep_statements.specs.Query.{no_limit}
 use Rattle.dep_statements.specs.Rows.{row_at, has_number, columns_from}
 use Rattle.dep_statements.proofs.Values.{cast_int, cast_null, cast_text_or_null}
 use Rattle.dep_statements.proofs.Tests.{passes_key}
 use Rattle.dep_statements.proofs.Answered.{by_rowid}
-use Rattle.dep_statements.proofs.Written.{Inserts, Deletes, inserts_keyed, deletes_keyed, deletes_where}
-use Rattle.dep_statements.proofs.Selected.{Asks, selects_in_order, selects_keyed}
+use Rattle.dep_statements.proofs.Written.{Inserts, Deletes, inserts_keyed}
+use Rattle.dep_statements.proofs.Selected.{Asks, selects_in_order}
 use Rattle.dep_types.specs.declared.rows.FileRow.{FileRow}
 use Rattle.dep_tables.specs.Schema.{our_schema}
 use Rattle.dep_tables.specs.Texts.{insert_file_text, delete_file_text, delete_files_text, find_file_text, files_of_text, sha256s_of_text}
@@ -25,7 +23,7 @@ use Rattle.dep_tables.specs.Rows.{stored_file, file_values, file_columns, shown_
 use Rattle.dep_tables.specs.Tables.{tables_of, IsOurs, Leads}
 use Rattle.dep_tables.proofs.Leading.{leads, files_at}
 use Rattle.dep_tables.proofs.OneTable.{of_number, of_column}
-use Rattle.dep_tables.proofs.Answered.{read_one, read_each}
+use Rattle.dep_tables.proofs.Answered.{read_each}
 
 insert_is : Inserts our_schema insert_file_text 4 (col 0 0 ∷ lit Null ∷ col 0 1 ∷ col 0 2 ∷ col 0 3 ∷ col 0 4 ∷ col 0 5 ∷ col 0 6 ∷ col 0 7 ∷ col 0 8 ∷ col 0 9 ∷ [])
 unfolding understood everything

@@ -1,5 +1,5 @@
 -- The rows of the objects' metadata.
-use Rattle.std.proofs.Common.{◌≡◌, ℕ, ℤ, pos, List, [], ◌∷◌, map, filter, not, true, false, Ok, codes, refl, ap, ◌∙◌}
+use Rattle.std.proofs.Common.{◌≡◌, ℕ, ℤ, pos, List, [], ◌∷◌, map, filter, true, false, Ok, codes, refl, ap, ◌∙◌}
 use Rattle.std.specs.List.{list_any}
 use Rattle.std.proofs.lemmas.Bool.{and_parts, and_from}
 use Rattle.std.proofs.lemmas.Cmp.{on_total, then_total}
@@ -18,12 +18,12 @@ use Rattle.sqlite_value.specs.Order.{value_cmp}
 use Rattle.sqlite_value.proofs.OrderLemmas.{value_cmp_total, then-Equal}
 use Rattle.sqlite_schema.specs.Rules.{agree}
 use Rattle.sqlite_rules.specs.Edit.{with_rowid}
-use Rattle.dep_statements.specs.Query.{equals, no_limit, rising}
+use Rattle.dep_statements.specs.Query.{no_limit, rising}
 use Rattle.dep_statements.specs.Rows.{has_number, put_next, columns_from, InOrder}
 use Rattle.dep_statements.proofs.Values.{cast_int, cast_null}
 use Rattle.dep_statements.proofs.Tests.{equals_int, equals_text, passes_key}
 use Rattle.dep_statements.proofs.Unique.{IsKey}
-use Rattle.dep_statements.proofs.Written.{IsListed, Inserts, Deletes, inserts_next, deletes_where}
+use Rattle.dep_statements.proofs.Written.{IsListed, Inserts, Deletes, inserts_next}
 use Rattle.dep_statements.proofs.Selected.{Asks, selects_sorted}
 use Rattle.dep_tables.specs.Schema.{our_schema, metadata_table}
 use Rattle.dep_tables.specs.Texts.{insert_metadata_text, delete_metadata_text, metadata_of_text}

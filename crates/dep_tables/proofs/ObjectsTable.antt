@@ -1,32 +1,29 @@
 -- The rows of the objects.
-use Rattle.std.proofs.Common.{◌≡◌, ℕ, pos, List, [], ◌∷◌, map, find, if◌then◌else◌, Option, None, Ok, refl, ap, ◌∙◌}
-use Rattle.std.specs.Option.{option_to_list, option_map}
+use Rattle.std.proofs.Common.{◌≡◌, ℕ, pos, List, [], ◌∷◌, if◌then◌else◌, None, Ok, refl, ap, ◌∙◌}
 use Rattle.sqlite_tied.specs.Compute.{everything}
 use Rattle.sqlite.specs.Listing.{understood}
 use Rattle.sqlite.specs.Cast.{cast}
 use Rattle.sqlite.specs.Kind.TheVariants.{Integer}
 use Rattle.sqlite.specs.Rowids.TheVariants.{Chosen}
-use Rattle.sqlite.specs.declared.types.Value.TheVariants.{Null, Int}
-use Rattle.sqlite.specs.Order.{Row}
+use Rattle.sqlite.specs.declared.types.Value.TheVariants.{Null}
 use Rattle.sqlite.specs.Term.{Term, lit, col}
-use Rattle.sqlite.specs.State.{State, ExecutesInside, Shown}
-use Rattle.sqlite_trees.specs.Tree.{put_row, without_rowid, rowid}
+use Rattle.sqlite.specs.State.{State, ExecutesInside}
+use Rattle.sqlite_trees.specs.Tree.{put_row}
 use Rattle.sqlite_rules.specs.Edit.{with_rowid}
-use Rattle.dep_statements.specs.Query.{equals, exceeds, no_limit}
-use Rattle.dep_statements.specs.Rows.{row_at, replaced, columns_from, is_after}
+use Rattle.dep_statements.specs.Query.{exceeds, no_limit}
+use Rattle.dep_statements.specs.Rows.{row_at, replaced}
 use Rattle.dep_statements.proofs.Values.{cast_int, cast_null}
-use Rattle.dep_statements.proofs.Tests.{passes_given, passes_key, passes_after}
+use Rattle.dep_statements.proofs.Tests.{passes_given}
 use Rattle.dep_statements.proofs.Answered.{by_rowid}
-use Rattle.dep_statements.proofs.Written.{IsListed, Inserts, Updates, Deletes, inserts_keyed, updates_keyed, deletes_keyed}
-use Rattle.dep_statements.proofs.Selected.{Asks, first_only, selects_keyed, selects_next}
+use Rattle.dep_statements.proofs.Written.{IsListed, Inserts, Updates, Deletes, inserts_keyed, updates_keyed}
+use Rattle.dep_statements.proofs.Selected.{Asks, first_only}
 use Rattle.dep_tables.specs.Schema.{our_schema, objects_table}
 use Rattle.dep_tables.specs.Texts.{insert_object_text, write_object_text, delete_object_text, find_object_text, next_object_text}
 use Rattle.dep_types.specs.declared.rows.ObjectRow.{ObjectRow}
-use Rattle.dep_tables.specs.Rows.{stored_object, object_values, object_columns, shown_object}
+use Rattle.dep_tables.specs.Rows.{stored_object, object_values, object_columns}
 use Rattle.dep_tables.specs.Tables.{tables_of, IsOurs, Leads}
 use Rattle.dep_tables.proofs.Leading.{leads, listed}
 use Rattle.dep_tables.proofs.OneTable.{of_number}
-use Rattle.dep_tables.proofs.Answered.{read_one, one_value}
 
 abbrev pub objects_at : IsListed our_schema 2 2
 objects_at = listed 2 2 objects_table refl (λ trees. refl)

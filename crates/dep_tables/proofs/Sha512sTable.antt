@@ -1,34 +1,27 @@
 -- The SHA-512 values of the files, and those that uploads promised.
-use Rattle.std.proofs.Common.{◌≡◌, ℕ, ℤ, pos, List, [], ◌∷◌, map, filter, not, true, false, Option, Ok, codes, refl, ◌∙◌}
-use Rattle.std.specs.Option.{option_to_list, option_map}
+use Rattle.std.proofs.Common.{◌≡◌, ℕ, pos, List, [], ◌∷◌, false, Ok, codes, refl}
 use Rattle.std.specs.List.{list_any}
-use Rattle.std.proofs.lemmas.Bool.{and_parts, and_from}
 use Rattle.sqlite_tied.specs.Compute.{everything}
 use Rattle.sqlite.specs.Listing.{understood}
 use Rattle.sqlite.specs.Rowids.TheVariants.{Chosen}
-use Rattle.sqlite.specs.Order.{Row, column}
-use Rattle.sqlite.specs.Term.{Term, lit, col}
-use Rattle.sqlite.specs.State.{State, ExecutesInside, Shown}
-use Rattle.sqlite.specs.declared.types.Value.TheVariants.{Null, Int, Blob}
-use Rattle.sqlite_value.specs.Keys.{plain, first_key}
-use Rattle.sqlite_schema.specs.Rules.{agree}
+use Rattle.sqlite.specs.Term.{lit, col}
+use Rattle.sqlite.specs.State.{State, ExecutesInside}
+use Rattle.sqlite.specs.declared.types.Value.TheVariants.{Null, Blob}
 use Rattle.sqlite_rules.specs.Edit.{with_rowid}
 use Rattle.dep_statements.specs.Query.{no_limit}
-use Rattle.dep_statements.specs.Rows.{put_next, columns_from}
+use Rattle.dep_statements.specs.Rows.{put_next}
 use Rattle.dep_statements.proofs.Values.{cast_int, cast_null}
-use Rattle.dep_statements.proofs.Tests.{equals_int}
 use Rattle.dep_statements.proofs.Unique.{IsKey}
-use Rattle.dep_statements.proofs.Written.{Inserts, Deletes, inserts_next, deletes_where}
-use Rattle.dep_statements.proofs.Selected.{Asks, selects_all}
+use Rattle.dep_statements.proofs.Written.{Inserts, Deletes, inserts_next}
+use Rattle.dep_statements.proofs.Selected.{Asks}
 use Rattle.dep_tables.specs.Schema.{our_schema, sha512s_table}
 use Rattle.dep_tables.specs.Texts.{insert_sha512_text, delete_sha512_text, find_sha512_text}
 use Rattle.dep_tables.specs.declared.owner.BlockOwner.{BlockOwner}
-use Rattle.dep_tables.specs.Rows.{kind_of, number_of, owner_values, sha512_values, is_sha512_of, value_in}
+use Rattle.dep_tables.specs.Rows.{kind_of, number_of, sha512_values, is_sha512_of}
 use Rattle.dep_tables.specs.Tables.{tables_of, IsOurs, Leads}
 use Rattle.dep_tables.proofs.OneTable.{two_agree}
 use Rattle.dep_tables.proofs.Leading.{leads, sha512s_at}
-use Rattle.dep_tables.proofs.BlocksTable.{of_owner, tests_owner}
-use Rattle.dep_tables.proofs.Answered.{read_few}
+use Rattle.dep_tables.proofs.BlocksTable.{of_owner}
 
 insert_is : Inserts our_schema insert_sha512_text 9 (lit Null ∷ col 0 0 ∷ col 0 1 ∷ col 0 2 ∷ [])
 unfolding understood everything

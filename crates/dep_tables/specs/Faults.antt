@@ -1,5 +1,4 @@
 -- The fault of the store that represents an error.
-use Rattle.std.specs.Prelude.{◌≡◌}
 use Rattle.sqlite.specs.declared.error.Error.{Error}
 use Rattle.sqlite.specs.declared.error.Error.TheVariants.{SqliteFailure}
 use Rattle.sqlite.specs.declared.error.ErrorCode.TheVariants.{OutOfMemory}
@@ -10,7 +9,3 @@ use Rattle.dep_types.specs.declared.store_fault.StoreFault.TheVariants.{Store, M
 abbrev pub fault_for : Error → StoreFault
 fault_for (SqliteFailure OutOfMemory) = Memory
 fault_for _ = Store
-
--- where this holds, the error is lack of memory
-abbrev pub IsMemoryWhere : Type 0 → Error → Type 0
-IsMemoryWhere good e = good → fault_for e ≡ Memory

@@ -16,9 +16,11 @@ use crate::owner::{
     key_params, owner_params, part_params,
 };
 use crate::reading::{FromRow, ask_one};
+use crate::texts::copy_at;
 use dep_types::StoreFault;
+use sqlite::Row;
 use sqlite::types::ValueRef;
-use sqlite::{Error, Row};
+use std::alloc::AllocError;
 
 fn block_params<'a>(key: &BlockKey, bytes: &'a [u8]) -> [ValueRef<'a>; 5]
     requires { IsStorableKey key.now }
@@ -139,10 +141,10 @@ impl FromRow for BlockPlace {
         &[Number, Number]
     }
 
-    fn from_row(row: &Row) -> Result<BlockPlace, Error> {
+    fn from_row(row: &Row) -> Result<BlockPlace, AllocError> {
         Ok(BlockPlace {
-            part: number_at(row, 0)?,
-            place: number_at(row, 1)?,
+            part: number_at(row, 0),
+            place: number_at(row, 1),
         })
     }
 }
@@ -164,8 +166,8 @@ impl FromRow for Vec<u8> {
         &[Bytes]
     }
 
-    fn from_row(row: &Row) -> Result<Vec<u8>, Error> {
-        row.get(0)
+    fn from_row(row: &Row) -> Result<Vec<u8>, AllocError> {
+        copy_at(row, 0)
     }
 }
 

@@ -13,9 +13,9 @@ use crate::numbers::{LIMIT, flag_at, flag_number, key_param, number, number_at};
 use crate::reading::{FromRow, ask_all, ask_one};
 use crate::texts::{digest_at, text_at, text_or_null, text_or_null_at, text_value};
 use dep_types::{FileRow, StoreFault};
+use sqlite::Row;
 use sqlite::types::ValueRef;
-use sqlite::{Error, Row};
-use std::alloc::Global;
+use std::alloc::{AllocError, Global};
 
 fn is_storable_file(row: &FileRow) -> bool
     ensures { IsTrue result ↔ IsStorableFile row.now }
@@ -98,19 +98,18 @@ impl FromRow for FileRow {
         ]
     }
 
-    fn from_row(row: &Row) -> Result<FileRow, Error> {
-        // The texts are read last, so that few are held, and let go, where another column is refused.
+    fn from_row(row: &Row) -> Result<FileRow, AllocError> {
         Ok(FileRow {
-            file: number_at(row, 0)?,
-            object: number_at(row, 1)?,
-            size: number_at(row, 4)?,
-            tag: number_at(row, 5)?,
-            deposited: number_at(row, 6)?,
-            by_reference: flag_at(row, 8)?,
-            sha256: digest_at(row, 9)?,
+            file: number_at(row, 0),
+            object: number_at(row, 1),
             name: text_at(row, 2)?,
             media: text_at(row, 3)?,
+            size: number_at(row, 4),
+            tag: number_at(row, 5),
+            deposited: number_at(row, 6),
             behalf: text_or_null_at(row, 7)?,
+            by_reference: flag_at(row, 8),
+            sha256: digest_at(row, 9),
         })
     }
 }

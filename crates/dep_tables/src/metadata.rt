@@ -13,9 +13,9 @@ use crate::numbers::{LIMIT, key_param, number, number_at};
 use crate::reading::{FromRow, ask_all};
 use crate::texts::{text_at, text_value};
 use dep_types::{StoreFault, Text};
+use sqlite::Row;
 use sqlite::types::ValueRef;
-use sqlite::{Error, Row};
-use std::alloc::Global;
+use std::alloc::{AllocError, Global};
 
 /// One text of an object's metadata.
 #[derive(Drop)]
@@ -89,11 +89,11 @@ impl FromRow for MetadataRow {
         &[Number, ColumnKind::Text, Number, ColumnKind::Text]
     }
 
-    fn from_row(row: &Row) -> Result<MetadataRow, Error> {
+    fn from_row(row: &Row) -> Result<MetadataRow, AllocError> {
         Ok(MetadataRow {
-            object: number_at(row, 0)?,
-            place: number_at(row, 2)?,
+            object: number_at(row, 0),
             name: text_at(row, 1)?,
+            place: number_at(row, 2),
             value: text_at(row, 3)?,
         })
     }

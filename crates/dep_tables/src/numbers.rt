@@ -1,13 +1,13 @@
 //! Numbers and flags as SQL keeps them.
 
-ghost use Rattle.std.specs.Prelude.{◌≡◌, ◌<◌, ◌^◌, pos, ◌∷◌, [], IfOk, IfErr, if◌then◌else◌};
+ghost use Rattle.std.specs.Prelude.{◌≡◌, ◌<◌, ◌^◌, pos, ◌∷◌, [], if◌then◌else◌};
 ghost use Rattle.sqlite.specs.declared.types.Value.TheVariants.{Int};
 ghost use Rattle.sqlite.specs.Order.{column};
 ghost use Rattle.sqlite.specs.Values.{bound};
 ghost use Rattle.dep_tables.specs.Rows.{flag, HasAt, IsNumberValue, IsFlagValue};
 
-use sqlite::types::{Type, ValueRef};
-use sqlite::{Error, Row};
+use sqlite::Row;
+use sqlite::types::ValueRef;
 
 /// One above the greatest number that SQL keeps.
 pub const LIMIT: u64 = 1 << 63;
@@ -28,15 +28,14 @@ pub(crate) fn key_param(key: u64) -> [ValueRef<'static>; 1]
     [ValueRef::Int(number(key))]
 }
 
-/// Returns the number in this column of a row, from 0 on. It is an `Err` where the column holds anything
-/// else. It takes no memory.
-pub fn number_at(row: &Row, at: usize) -> Result<u64, Error>
-    ensures reported { IfOk result (λ n. column row.now at ≡ Int (pos n)) }
-    ensures refused { IfErr result (λ _. ¬ (HasAt IsNumberValue row.now at)) }
+/// The number in this column of a row.
+pub(crate) fn number_at(row: &Row, at: usize) -> u64
+    requires { HasAt IsNumberValue row.now at }
+    ensures { column row.now at ≡ Int (pos result) }
 {
-    match row.get_ref(at)? {
-        ValueRef::Int(n) if n >= 0 => Ok(n as u64),
-        other => Err(Error::InvalidColumnType(at, Type::of(other))),
+    match row.get_ref(at) {
+        Ok(ValueRef::Int(n)) => n as u64,
+        _ => unreachable!(),
     }
 }
 
@@ -47,15 +46,10 @@ pub(crate) fn flag_number(b: bool) -> i64
     if b { 1 } else { 0 }
 }
 
-/// Returns the flag in this column of a row: 0 is `false`, 1 is `true`, and anything else is an `Err`. It
-/// takes no memory.
-pub(crate) fn flag_at(row: &Row, at: usize) -> Result<bool, Error>
-    ensures reported { IfOk result (λ b. column row.now at ≡ flag b) }
-    ensures refused { IfErr result (λ _. ¬ (HasAt IsFlagValue row.now at)) }
+/// The flag in this column of a row.
+pub(crate) fn flag_at(row: &Row, at: usize) -> bool
+    requires { HasAt IsFlagValue row.now at }
+    ensures { column row.now at ≡ flag result }
 {
-    match number_at(row, at)? {
-        0 => Ok(false),
-        1 => Ok(true),
-        _ => Err(Error::IntegralValueOutOfRange(at)),
-    }
+    number_at(row, at) == 1
 }

@@ -12,8 +12,9 @@ use crate::columns::ColumnKind::{self, Flag, Number};
 use crate::numbers::{LIMIT, flag_at, flag_number, key_param, number, number_at};
 use crate::reading::{FromRow, ask_one};
 use dep_types::{ObjectRow, StoreFault};
+use sqlite::Row;
 use sqlite::types::ValueRef;
-use sqlite::{Error, Row};
+use std::alloc::AllocError;
 
 fn is_storable_object(row: &ObjectRow) -> bool
     ensures { IsTrue result ↔ IsStorableObject row.now }
@@ -91,14 +92,14 @@ impl FromRow for ObjectRow {
         &[Number, Flag, Number, Number, Number, Number]
     }
 
-    fn from_row(row: &Row) -> Result<ObjectRow, Error> {
+    fn from_row(row: &Row) -> Result<ObjectRow, AllocError> {
         Ok(ObjectRow {
-            object: number_at(row, 0)?,
-            ingested: flag_at(row, 1)?,
-            object_tag: number_at(row, 2)?,
-            metadata_tag: number_at(row, 3)?,
-            files_tag: number_at(row, 4)?,
-            changed: number_at(row, 5)?,
+            object: number_at(row, 0),
+            ingested: flag_at(row, 1),
+            object_tag: number_at(row, 2),
+            metadata_tag: number_at(row, 3),
+            files_tag: number_at(row, 4),
+            changed: number_at(row, 5),
         })
     }
 }

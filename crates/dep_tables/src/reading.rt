@@ -1,27 +1,24 @@
 //! What is read from the rows that a query shows.
 
-ghost use Rattle.std.specs.Prelude.{◌≡◌, ⊤, ℕ, List, ◌∷◌, [], pos, All, IfOk, IfErr, map};
+ghost use Rattle.std.specs.Prelude.{◌≡◌, ⊤, ℕ, List, ◌∷◌, [], pos, All, IfOk, IfErr, OnErr, map};
 ghost use Rattle.std.specs.Option.{option_to_list};
 ghost use Rattle.sqlite.specs.Order.{Row as Values};
 ghost use Rattle.sqlite.specs.declared.types.Value.TheVariants.{Int};
 ghost use Rattle.sqlite.specs.State.{HasCleanDisk};
 ghost use Rattle.sqlite.specs.Values.{bound};
 ghost use Rattle.dep_statements.specs.Rows.{columns_from};
-ghost use Rattle.dep_types.specs.declared.store_fault.StoreFault.TheVariants.{Memory};
 ghost use Rattle.dep_tables.specs.declared.columns.ColumnKind.{ColumnKind};
-ghost use Rattle.dep_tables.specs.Faults.{fault_for};
 ghost use Rattle.dep_tables.specs.Rows.{HasKinds, number_kinds};
 ghost use Rattle.dep_tables.specs.Clauses.{AtMostOne, IsFaultAt, FailsWithRows, FailsToRead, ShowsColumns, AsksWithin};
 
 use crate::calls::Statements;
 use crate::columns::ColumnKind::{self, Number};
 use crate::columns::{has_kinds, have_kinds};
-use crate::fault::fault_of;
 use crate::numbers::number_at;
 use dep_types::StoreFault;
+use sqlite::Row;
 use sqlite::types::ValueRef;
-use sqlite::{Error, Row};
-use std::alloc::Global;
+use std::alloc::{AllocError, Global};
 
 /// What one row represents.
 pub(crate) trait FromRow: Sized {
@@ -41,11 +38,11 @@ pub(crate) trait FromRow: Sized {
     fn kinds() -> &'static [ColumnKind]
         ensures { result.now ≡ columns };
 
-    /// What the row represents. Where each column is of its kind it fails only for memory, if it takes any.
-    fn from_row(row: &Row) -> Result<Self, Error>
+    /// What the row represents.
+    fn from_row(row: &Row) -> Result<Self, AllocError>
+        requires { HasKinds columns row.now }
         ensures reported { IfOk result (λ r. values r ≡ columns_from 0 width row.now) }
-        ensures refused { IfErr result (λ error. HasKinds columns row.now
-            → copies × (fault_for error ≡ Memory)) };
+        ensures refused { OnErr result copies };
 }
 
 impl FromRow for u64 {
@@ -61,8 +58,8 @@ impl FromRow for u64 {
         &[Number]
     }
 
-    fn from_row(row: &Row) -> Result<u64, Error> {
-        number_at(row, 0)
+    fn from_row(row: &Row) -> Result<u64, AllocError> {
+        Ok(number_at(row, 0))
     }
 }
 
@@ -76,7 +73,7 @@ fn at_most_one<R: FromRow>(rows: &[Row]) -> Result<Option<R>, StoreFault>
 {
     match rows {
         [] => Ok(None),
-        [row] if has_kinds(row, R::kinds()) => Ok(Some(R::from_row(row).map_err(fault_of)?)),
+        [row] if has_kinds(row, R::kinds()) => Ok(Some(R::from_row(row)?)),
         _ => Err(StoreFault::Store),
     }
 }
@@ -93,7 +90,7 @@ fn all<R: FromRow + Drop>(alloc: Global, rows: &[Row]) -> Result<Vec<R>, StoreFa
     }
     let mut found = Vec::new(alloc);
     'rows: for row in rows {
-        let read = R::from_row(row).map_err(fault_of)?;
+        let read = R::from_row(row)?;
         found.push(read)?;
     }
     Ok(found)

@@ -12,9 +12,9 @@ use crate::columns::ColumnKind::{self, Number};
 use crate::numbers::{LIMIT, key_param, number, number_at};
 use crate::reading::{FromRow, ask_all};
 use dep_types::StoreFault;
+use sqlite::Row;
 use sqlite::types::ValueRef;
-use sqlite::{Error, Row};
-use std::alloc::Global;
+use std::alloc::{AllocError, Global};
 
 /// A segment that was received, less its bytes.
 #[derive(Clone, Copy, Debug, PartialEq, Eq)]
@@ -84,11 +84,11 @@ impl FromRow for SegmentRow {
         &[Number, Number, Number]
     }
 
-    fn from_row(row: &Row) -> Result<SegmentRow, Error> {
+    fn from_row(row: &Row) -> Result<SegmentRow, AllocError> {
         Ok(SegmentRow {
-            upload: number_at(row, 0)?,
-            number: number_at(row, 1)?,
-            size: number_at(row, 2)?,
+            upload: number_at(row, 0),
+            number: number_at(row, 1),
+            size: number_at(row, 2),
         })
     }
 }

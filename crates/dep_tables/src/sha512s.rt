@@ -14,8 +14,9 @@ use crate::owner::{BlockOwner, is_storable_owner, owner_params};
 use crate::reading::{FromRow, ask_one};
 use crate::texts::digest_at;
 use dep_types::StoreFault;
+use sqlite::Row;
 use sqlite::types::ValueRef;
-use sqlite::{Error, Row};
+use std::alloc::AllocError;
 
 /// The SHA-512 of a file's content.
 #[derive(Drop)]
@@ -83,8 +84,8 @@ impl FromRow for [u8; 64] {
         &[Sha512]
     }
 
-    fn from_row(row: &Row) -> Result<[u8; 64], Error> {
-        digest_at(row, 0)
+    fn from_row(row: &Row) -> Result<[u8; 64], AllocError> {
+        Ok(digest_at(row, 0))
     }
 }
 

@@ -11,8 +11,9 @@ use crate::columns::ColumnKind::{self, Number};
 use crate::numbers::{LIMIT, number, number_at};
 use crate::reading::{FromRow, ask_one};
 use dep_types::{Counters, StoreFault};
+use sqlite::Row;
 use sqlite::types::ValueRef;
-use sqlite::{Error, Row};
+use std::alloc::AllocError;
 
 /// The clock, a moment in seconds of Unix time, and the numbers to be given next.
 #[derive(Clone, Copy, Debug, PartialEq, Eq)]
@@ -74,14 +75,14 @@ impl FromRow for StateRow {
         &[Number, Number, Number, Number, Number]
     }
 
-    fn from_row(row: &Row) -> Result<StateRow, Error> {
+    fn from_row(row: &Row) -> Result<StateRow, AllocError> {
         Ok(StateRow {
-            clock: number_at(row, 0)?,
+            clock: number_at(row, 0),
             next: Counters {
-                object: number_at(row, 1)?,
-                file: number_at(row, 2)?,
-                upload: number_at(row, 3)?,
-                change: number_at(row, 4)?,
+                object: number_at(row, 1),
+                file: number_at(row, 2),
+                upload: number_at(row, 3),
+                change: number_at(row, 4),
             },
         })
     }

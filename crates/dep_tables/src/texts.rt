@@ -1,16 +1,16 @@
 //! Texts and digests as SQL keeps them.
 
-ghost use Rattle.std.specs.Prelude.{◌≡◌, IfOk, IfErr};
+ghost use Rattle.std.specs.Prelude.{◌≡◌, IfOk};
 ghost use Rattle.sqlite.specs.declared.types.Value.TheVariants.{Text as TextValue, Blob};
 ghost use Rattle.sqlite.specs.Order.{column};
 ghost use Rattle.sqlite.specs.Values.{or_null};
 ghost use Rattle.sqlite_value.specs.Value.{owned};
-ghost use Rattle.dep_tables.specs.Faults.{IsMemoryWhere};
 ghost use Rattle.dep_tables.specs.Rows.{HasAt, IsTextValue, IsDigestValue, IsNullOr};
 
 use dep_types::Text;
-use sqlite::types::ValueRef;
-use sqlite::{Error, Row};
+use sqlite::types::{FromSql, ValueRef};
+use sqlite::{Error, ErrorCode, Row};
+use std::alloc::AllocError;
 
 /// The text as SQL keeps it.
 pub(crate) fn text_value(text: &Text) -> ValueRef<'_>
@@ -19,12 +19,24 @@ pub(crate) fn text_value(text: &Text) -> ValueRef<'_>
     ValueRef::Text(text.as_str().as_bytes())
 }
 
-/// A text that `text_value` wrote.
-pub(crate) fn text_at(row: &Row, at: usize) -> Result<Text, Error>
-    ensures reported { IfOk result (λ read. column row.now at ≡ TextValue read) }
-    ensures refused { IfErr result (IsMemoryWhere (HasAt IsTextValue row.now at)) }
+/// A copy of the value in this column of a row.
+pub(crate) fn copy_at<T: FromSql>(row: &Row, at: usize) -> Result<T, AllocError>
+    requires { HasAt T.is_readable row.now at }
+    ensures { IfOk result (λ read. T.reads_as (column row.now at) read) }
 {
-    Ok(Text::new(row.get(at)?))
+    match row.get(at) {
+        Ok(read) => Ok(read),
+        Err(Error::SqliteFailure(ErrorCode::OutOfMemory)) => Err(AllocError),
+        Err(_) => unreachable!(),
+    }
+}
+
+/// A text that `text_value` wrote.
+pub(crate) fn text_at(row: &Row, at: usize) -> Result<Text, AllocError>
+    requires { HasAt IsTextValue row.now at }
+    ensures { IfOk result (λ read. column row.now at ≡ TextValue read) }
+{
+    Ok(Text::new(copy_at(row, at)?))
 }
 
 /// A text as SQL keeps it, or NULL.
@@ -38,11 +50,11 @@ pub(crate) fn text_or_null(text: &Option<Text>) -> ValueRef<'_>
 }
 
 /// A text that `text_or_null` wrote.
-pub(crate) fn text_or_null_at(row: &Row, at: usize) -> Result<Option<Text>, Error>
-    ensures reported { IfOk result (λ read. column row.now at ≡ or_null TextValue read) }
-    ensures refused { IfErr result (IsMemoryWhere (HasAt (IsNullOr IsTextValue) row.now at)) }
+pub(crate) fn text_or_null_at(row: &Row, at: usize) -> Result<Option<Text>, AllocError>
+    requires { HasAt (IsNullOr IsTextValue) row.now at }
+    ensures { IfOk result (λ read. column row.now at ≡ or_null TextValue read) }
 {
-    let text: Option<String> = row.get(at)?;
+    let text: Option<String> = copy_at(row, at)?;
     match text {
         Some(text) => Ok(Some(Text::new(text))),
         None => Ok(None),
@@ -59,24 +71,27 @@ pub(crate) fn digest_or_null(digest: &Option<[u8; 32]>) -> ValueRef<'_>
     }
 }
 
-/// A digest of N bytes. It takes no memory.
-pub(crate) fn digest_at<const N: usize>(row: &Row, at: usize) -> Result<[u8; N], Error>
-    ensures reported { IfOk result (λ read. column row.now at ≡ Blob read) }
-    ensures refused { IfErr result (λ _. ¬ (HasAt (IsDigestValue N) row.now at)) }
+/// A digest of N bytes.
+pub(crate) fn digest_at<const N: usize>(row: &Row, at: usize) -> [u8; N]
+    requires { HasAt (IsDigestValue N) row.now at }
+    ensures { column row.now at ≡ Blob result }
 {
-    let ValueRef::Blob(bytes) = row.get_ref(at)? else {
-        return Err(Error::InvalidColumnIndex(at));
+    let Ok(ValueRef::Blob(bytes)) = row.get_ref(at) else {
+        unreachable!();
     };
-    <[u8; N]>::try_from(bytes).map_err(|_| Error::InvalidColumnIndex(at))
+    let Ok(digest) = <[u8; N]>::try_from(bytes) else {
+        unreachable!();
+    };
+    digest
 }
 
-/// A digest that `digest_or_null` wrote. It takes no memory.
-pub(crate) fn digest_or_null_at(row: &Row, at: usize) -> Result<Option<[u8; 32]>, Error>
-    ensures reported { IfOk result (λ read. column row.now at ≡ or_null Blob read) }
-    ensures refused { IfErr result (λ _. ¬ (HasAt (IsNullOr (IsDigestValue 32)) row.now at)) }
+/// A digest that `digest_or_null` wrote.
+pub(crate) fn digest_or_null_at(row: &Row, at: usize) -> Option<[u8; 32]>
+    requires { HasAt (IsNullOr (IsDigestValue 32)) row.now at }
+    ensures { column row.now at ≡ or_null Blob result }
 {
-    match row.get_ref(at)? {
-        ValueRef::Null => Ok(None),
-        _ => Ok(Some(digest_at(row, at)?)),
+    match row.get_ref(at) {
+        Ok(ValueRef::Null) => None,
+        _ => Some(digest_at(row, at)),
     }
 }

@@ -13,8 +13,9 @@ use crate::numbers::{LIMIT, key_param, number, number_at};
 use crate::reading::{FromRow, ask_one};
 use crate::texts::{digest_or_null, digest_or_null_at};
 use dep_types::{StoreFault, UploadRow};
+use sqlite::Row;
 use sqlite::types::ValueRef;
-use sqlite::{Error, Row};
+use std::alloc::AllocError;
 
 /// An upload as its row has it: a SHA-512 that was promised of it has a table of its own.
 #[derive(Clone, Copy, Debug, PartialEq, Eq)]
@@ -134,14 +135,14 @@ impl FromRow for UploadColumns {
         &[Number, Number, Number, Number, Sha256OrNull, Number]
     }
 
-    fn from_row(row: &Row) -> Result<UploadColumns, Error> {
+    fn from_row(row: &Row) -> Result<UploadColumns, AllocError> {
         Ok(UploadColumns {
-            upload: number_at(row, 0)?,
-            size: number_at(row, 1)?,
-            count: number_at(row, 2)?,
-            segment_size: number_at(row, 3)?,
-            sha256: digest_or_null_at(row, 4)?,
-            last: number_at(row, 5)?,
+            upload: number_at(row, 0),
+            size: number_at(row, 1),
+            count: number_at(row, 2),
+            segment_size: number_at(row, 3),
+            sha256: digest_or_null_at(row, 4),
+            last: number_at(row, 5),
         })
     }
 }
@@ -194,10 +195,10 @@ impl FromRow for LeftUpload {
         &[Number, Number]
     }
 
-    fn from_row(row: &Row) -> Result<LeftUpload, Error> {
+    fn from_row(row: &Row) -> Result<LeftUpload, AllocError> {
         Ok(LeftUpload {
-            upload: number_at(row, 0)?,
-            last: number_at(row, 1)?,
+            upload: number_at(row, 0),
+            last: number_at(row, 1),
         })
     }
 }

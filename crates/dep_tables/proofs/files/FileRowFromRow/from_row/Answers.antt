@@ -1,37 +1,36 @@
-use Rattle.std.proofs.Common.{refl, arith}
-use Rattle.dep_tables.specs.Rows.{file_kinds}
-use Rattle.dep_tables.proofs.Refused.{passed_on, copied_on, next_column, kind_at}
+use Rattle.std.proofs.Common.{◌<◌, ℕ, get_or, sym, subst, arith}
+use Rattle.sqlite.specs.Order.{Row}
+use Rattle.dep_tables.specs.Rows.{HasAt, HasKinds, IsOfKind, file_kinds}
+use Rattle.dep_tables.specs.declared.columns.ColumnKind.TheVariants as kind
 use Rattle.dep_tables.proofs.files.FileRowFromRow.from_row.Goals as goal
 
-pub returns-in_err-number_at-clause-refused : goal.returns-in_err-number_at-clause-refused
-returns-in_err-number_at-clause-refused c = passed_on _ c.from_residual.result c.from_residual.ensures.0 c.in_err-number_at.ensures.refused (kind_at file_kinds c.args.row.now 0 (omega arith))
+-- what the row of a file has in a column
+kind_at : (row : Row) (at : ℕ) → at < 10 → HasKinds file_kinds row → HasAt (IsOfKind (get_or file_kinds at kind.Number)) row at
+kind_at row at inside has = (subst (λ n. at < n) (sym has.width) inside, has.each at kind.Number inside)
 
-pub returns-in_err-number_at-2-clause-refused : goal.returns-in_err-number_at-2-clause-refused
-returns-in_err-number_at-2-clause-refused c = passed_on _ c.from_residual-in_err-number_at-2.result c.from_residual-in_err-number_at-2.ensures.0 c.in_err-number_at-2.ensures.refused (kind_at file_kinds c.args.row.now 1 (omega arith))
+pub number_at-requires : goal.number_at-requires
+number_at-requires c = kind_at c.args.row.now 0 (omega arith) c.requires
 
-pub returns-in_err-text_at-clause-refused : goal.returns-in_err-text_at-clause-refused
-returns-in_err-text_at-clause-refused c = copied_on c.from_residual-in_err-text_at.result c.in_err-text_at.field-0.0 c.from_residual-in_err-text_at.ensures.1 c.in_err-text_at.ensures.refused (kind_at file_kinds c.args.row.now 2 (omega arith))
+pub number_at-requires-2 : goal.number_at-requires-2
+number_at-requires-2 c = kind_at c.args.row.now 1 (omega arith) c.requires
 
-pub returns-in_err-text_at-2-clause-refused : goal.returns-in_err-text_at-2-clause-refused
-returns-in_err-text_at-2-clause-refused c = copied_on c.from_residual-in_err-text_at-2.result c.in_err-text_at-2.field-0.0 c.from_residual-in_err-text_at-2.ensures.1 c.in_err-text_at-2.ensures.refused (kind_at file_kinds c.args.row.now 3 (omega arith))
+pub text_at-requires : goal.text_at-requires
+text_at-requires c = kind_at c.args.row.now 2 (omega arith) c.requires
 
-pub returns-in_err-number_at-3-clause-refused : goal.returns-in_err-number_at-3-clause-refused
-returns-in_err-number_at-3-clause-refused c = passed_on _ c.from_residual-in_err-number_at-3.result c.from_residual-in_err-number_at-3.ensures.0 c.in_err-number_at-3.ensures.refused (kind_at file_kinds c.args.row.now 4 (omega arith))
+pub text_at-requires-2 : goal.text_at-requires-2
+text_at-requires-2 c = kind_at c.args.row.now 3 (omega arith) c.requires
 
-pub returns-in_err-number_at-4-clause-refused : goal.returns-in_err-number_at-4-clause-refused
-returns-in_err-number_at-4-clause-refused c = passed_on _ c.from_residual-in_err-number_at-4.result c.from_residual-in_err-number_at-4.ensures.0 c.in_err-number_at-4.ensures.refused (kind_at file_kinds c.args.row.now 5 (omega arith))
+pub number_at-requires-3 : goal.number_at-requires-3
+number_at-requires-3 c = kind_at c.args.row.now 4 (omega arith) c.requires
 
-pub returns-in_err-number_at-5-clause-refused : goal.returns-in_err-number_at-5-clause-refused
-returns-in_err-number_at-5-clause-refused c = passed_on _ c.from_residual-in_err-number_at-5.result c.from_residual-in_err-number_at-5.ensures.0 c.in_err-number_at-5.ensures.refused (kind_at file_kinds c.args.row.now 6 (omega arith))
+pub number_at-requires-4 : goal.number_at-requires-4
+number_at-requires-4 c = kind_at c.args.row.now 5 (omega arith) c.requires
 
-pub returns-in_err-text_or_null_at-clause-refused : goal.returns-in_err-text_or_null_at-clause-refused
-returns-in_err-text_or_null_at-clause-refused c = copied_on c.from_residual-in_err-text_or_null_at.result c.in_err-text_or_null_at.field-0.0 c.from_residual-in_err-text_or_null_at.ensures.1 c.in_err-text_or_null_at.ensures.refused (kind_at file_kinds c.args.row.now 7 (omega arith))
+pub number_at-requires-5 : goal.number_at-requires-5
+number_at-requires-5 c = kind_at c.args.row.now 6 (omega arith) c.requires
 
-pub returns-in_err-flag_at-clause-refused : goal.returns-in_err-flag_at-clause-refused
-returns-in_err-flag_at-clause-refused c = passed_on _ c.from_residual-in_err-flag_at.result c.from_residual-in_err-flag_at.ensures.0 c.in_err-flag_at.ensures.refused (kind_at file_kinds c.args.row.now 8 (omega arith))
+pub text_or_null_at-requires : goal.text_or_null_at-requires
+text_or_null_at-requires c = kind_at c.args.row.now 7 (omega arith) c.requires
 
-pub returns-in_err-digest_at-clause-refused : goal.returns-in_err-digest_at-clause-refused
-returns-in_err-digest_at-clause-refused c = passed_on _ c.from_residual-in_err-digest_at.result c.from_residual-in_err-digest_at.ensures.0 c.in_err-digest_at.ensures.refused (kind_at file_kinds c.args.row.now 9 (omega arith))
-
-pub returns-clause-reported : goal.returns-clause-reported
-returns-clause-reported c = next_column c.in_ok-number_at.ensures.reported (next_column c.in_ok-number_at-2.ensures.reported (next_column c.in_ok-text_at.ensures.reported (next_column c.in_ok-text_at-2.ensures.reported (next_column c.in_ok-number_at-3.ensures.reported (next_column c.in_ok-number_at-4.ensures.reported (next_column c.in_ok-number_at-5.ensures.reported (next_column c.in_ok-text_or_null_at.ensures.reported (next_column c.in_ok-flag_at.ensures.reported (next_column c.in_ok-digest_at.ensures.reported refl)))))))))
+pub flag_at-requires : goal.flag_at-requires
+flag_at-requires c = kind_at c.args.row.now 8 (omega arith) c.requires
