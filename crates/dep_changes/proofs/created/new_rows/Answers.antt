@@ -32,7 +32,7 @@ files-preserved c s numbers sources =
 pub returns : goal.returns
 returns c = record {
   reported = λ s reported.
-      c.new.ensures
+      c.from_vec.ensures
       ∙ c.files.invariant s reported.0 reported.1
       ∙ ap (rows_added s c.args.numbered.now.change.now.content.now c.args.object s.next.file) (take_all c.files.index c.args.numbered.now.files.now c.files-test.false);
 }

@@ -8,7 +8,7 @@ pub returns : goal.returns
 returns g c = record {
   does = queried_ok c.in_ok-files_of.ensures.does
       (λ clean ours s are.
-      c.new.ensures ∙ files_read (tables_of (g.T.Statements.state c.args.tx.now)) s are c.args.object c.in_ok-files_of.field-0.items (c.in_ok-files_of.ensures.does.ok clean ours));
+      c.from_vec.ensures ∙ files_read (tables_of (g.T.Statements.state c.args.tx.now)) s are c.args.object c.in_ok-files_of.field-0.items (c.in_ok-files_of.ensures.does.ok clean ours));
 }
 
 pub returns-in_err-files_of : goal.returns-in_err-files_of

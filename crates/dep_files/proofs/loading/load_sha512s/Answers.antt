@@ -33,7 +33,7 @@ returns g c = record {
   does = record {
     found = λ clean inside ours s are is_open n rows.
         let all = subst (λ l. AllZip (IsValueOf s) l c.rows.values.items) (take_all c.rows.row-index c.args.rows.now c.rows-test.false ∙ rows) (c.rows.invariant.1 is_open clean ours s are) in
-        c.new.ensures ∙ values_are s n c.rows.values.items all;
+        c.from_vec.ensures ∙ values_are s n c.rows.values.items all;
     keeps = may_ok c.rows.invariant.0;
   };
 }

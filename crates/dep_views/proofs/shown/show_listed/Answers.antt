@@ -9,7 +9,7 @@ returns g c = record {
   does = record {
     map = record {
       found = λ clean inside ours s are sound has.
-          (λ i. shown.Files (record { object = c.args.row; metadata = c.new.ensures i; files = c.in_ok-files.files; sha512s = (c.new-3.ensures ∙ c.new-2.ensures.items) i }))
+          (λ i. shown.Files (record { object = c.args.row; metadata = c.new.ensures i; files = c.in_ok-files.files; sha512s = c.empty.ensures i }))
           ∙ listed_shown (λ _. []) s c.args.row c.in_ok-files.files has (c.in_ok-files.ensures.does.map clean ours s are);
       keeps = reads_ok c.in_ok-files.ensures.does.keeps;
     };

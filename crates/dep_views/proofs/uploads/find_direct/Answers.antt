@@ -9,7 +9,7 @@ pub returns-then-is_some : goal.returns-then-is_some
 returns-then-is_some g c = record {
   map = record {
     found = λ clean inside ours s are is_open.
-        c.from_vec.ensures ∙ c.new.ensures.items ∙ sym (ap (λ b. map (upload_undigested false s) (if b then [] else c.args.touched.now.uploads)) (sym c.is_some.ensures ∙ c.if-is_some.true));
+        c.empty.ensures ∙ sym (ap (λ b. map (upload_undigested false s) (if b then [] else c.args.touched.now.uploads)) (sym c.is_some.ensures ∙ c.if-is_some.true));
     keeps = may_put g.T.Statements.lenders g.T.Statements.state c.args.tx.now _;
   };
 }
