@@ -7,10 +7,6 @@ use Rattle.dep_answers.specs.declared.performed.Performed.{Performed}
 use Rattle.dep_answers.specs.declared.performed.StoredFile.{StoredFile}
 use Rattle.dep_exchange.specs.declared.rest.Rest.{Rest}
 
--- nothing begins
-pub unbegun : (P : Rest → Type 0) (o : Option Rest) → o ≡ None → IfSome o P
-unbegun P o e = subst (λ (x : Option Rest). IfSome x P) (sym e) tt
-
 -- what begins is this, of which that is known
 pub begins_as : (P Q : Rest → Type 0) (o : Option Rest) → ((r : Rest) → P r → Q r) → IfSome o P → IfSome o Q
 begins_as P Q None f h = tt

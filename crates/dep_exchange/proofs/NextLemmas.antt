@@ -1,18 +1,21 @@
 -- What answering the next item comes to, and how an arrival goes on with it.
-use Rattle.std.proofs.Common.{◌≡◌, ◌≢◌, ◌⊎◌, inl, inr, ℕ, Bool, true, false, List, [], Option, refl, sym, ap, subst, ◌∙◌}
+use Rattle.std.proofs.Common.{◌≡◌, ◌≢◌, ◌⊎◌, inl, inr, ℕ, Bool, true, false, List, [], Option, None, refl, sym, ap, subst, ◌∙◌}
 use Rattle.std.proofs.lemmas.List.{append-nil}
 use Rattle.std.specs.Io.KnownBytes.{Appends}
 use Rattle.dep_types.specs.declared.config.Config.{Config}
+use Rattle.dep_types.specs.declared.outlet.Outlet.{Ghosts}
 use Rattle.dep_types.specs.Conditions.{Condition}
 use Rattle.dep_types.specs.Writing.{HasRisen}
 use Rattle.dep_message.specs.Places.{Place, Open, Shut, Reading, IsOpen, HasBytes, shut_reading}
 use Rattle.dep_message.specs.Stream.{Item, FirstAt, Waits}
 use Rattle.dep_message.specs.Giving.{Takes}
 use Rattle.dep_exchange.specs.Machine.{state_after, answer_at_place, SendsUpTo, out_of_memory}
-use Rattle.dep_exchange.specs.Sending.{Outside, Passes, outside}
+use Rattle.dep_exchange.specs.Sending.{Outside, Passes, outside, outside_of}
+use Rattle.dep_exchange.specs.Owing.{Owing}
 use Rattle.dep_exchange.specs.Serving.{KeepsIntake, Arrival, Answers, IsDeadIfShut, Progress, ServesOver, answer_after}
 use Rattle.dep_exchange.specs.Nexts.{Stays, Rests, RunsOut, IsLast, IsDead, Ends, GoesOn, IsWaiting, AnswersNext, TakesNext, ended_as, next_behind, reading_behind}
 use Rattle.dep_exchange.specs.Shut.{EndsFixed, waits, has_ended}
+use Rattle.dep_exchange.specs.declared.rest.Rest.{Rest}
 use Rattle.dep_exchange.specs.declared.arrived.Arrived.{Arrived}
 use Rattle.dep_exchange.specs.declared.arrived.Arrived.TheVariants.{Open as StaysOpen, Closed, Cut, NoSuch}
 use Rattle.dep_exchange.specs.declared.next.Next.{Next}
@@ -21,6 +24,7 @@ use Rattle.dep_exchange.specs.declared.next.Next.TheVariants as next
 use Rattle.dep_exchange.specs.declared.sending.Answered.{Answered}
 use Rattle.dep_exchange.specs.declared.sending.Answered.TheVariants.{Sent, GaveUp, CutShort}
 use Rattle.dep_exchange.proofs.Leaving.{Settles}
+use Rattle.dep_exchange.proofs.OwingLemmas.{said_now}
 use Rattle.dep_exchange.proofs.SendingLemmas.{passes_none, passes_both, passes_at}
 use Rattle.dep_exchange.proofs.ShutLemmas.{leaves_same, leaves_both, ends_sent, there_sent}
 use Rattle.dep_exchange.proofs.ServingLemmas.{served_more, serves_waiting, serves_last, serves_gives_up, first_at, answer_open}
@@ -201,3 +205,10 @@ module _ (config : Config) (reading : Reading) (moment : ℕ) (before after : Ou
   next_passes next.Closed e = ends_pass Closed e.1
   next_passes next.Cut e = ends_pass Cut e.1
   next_passes next.NoSuch e = absurd e
+
+-- where nothing is sent later, the next item was answered by what was sent
+pub answered_now : {O : Type 0} (g : Ghosts O) (config : Config) (reading now : Reading) (moment : ℕ) (before after : O) (old new : Condition) (n : Next) (r : Option Rest)
+    → r ≡ None → Owing g before after new r (λ at. TakesNext config reading now moment (outside_of g before old) at n)
+    → TakesNext config reading now moment (outside_of g before old) (outside_of g after new) n
+answered_now g config reading now moment before after old new n r none y =
+    said_now g before after new r (λ at. TakesNext config reading now moment (outside_of g before old) at n) none y

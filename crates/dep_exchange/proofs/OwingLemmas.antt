@@ -4,15 +4,20 @@ use Rattle.std.specs.Io.KnownBytes.{Appends}
 use Rattle.dep_types.specs.State.{State}
 use Rattle.dep_types.specs.Streams.{HasContent, IsStreamed}
 use Rattle.dep_types.specs.Conditions.{Condition, Represents, HasCleanDisk}
+use Rattle.dep_types.specs.declared.outlet.Outlet.{Ghosts}
 use Rattle.dep_types.specs.declared.stream_fault.StreamFault.{StreamFault}
 use Rattle.dep_answers.specs.declared.performed.StoredFile.{StoredFile}
-use Rattle.dep_exchange.specs.Owing.{HasBehind, IsLater, SendsContent, TakesFew, TakesSome, with_more}
+use Rattle.dep_exchange.specs.Owing.{HasBehind, IsLater, Owing, SendsContent, TakesFew, TakesSome, outside_with, with_more}
+use Rattle.dep_exchange.specs.Sending.{Outside, outside_of}
 use Rattle.dep_exchange.specs.declared.rest.Rest.{Rest}
 use Rattle.std.proofs.KnownBytes.{Appends-nil, Appends-trans}
 
--- nothing is sent later
-pub none_later : (store : Condition) (r : Option Rest) → r ≡ None → IsLater store r None
-none_later store r e = subst (λ (x : Option Rest). IsLater store x None) (sym e) refl
+-- where nothing is sent later, it is said of what was sent
+pub said_now : {O : Type 0} (g : Ghosts O) (before after : O) (store : Condition) (r : Option Rest) (reported : Outside → Type 0)
+    → r ≡ None → Owing g before after store r reported → reported (outside_of g after store)
+said_now g before after store r reported none y =
+    subst (λ (more : Option (List ℕ)). reported (outside_with g after store more))
+    (subst (λ (x : Option Rest). IsLater store x y.0) none y.1) y.3
 
 whole_later : (taken : Option (List ℕ)) (bytes : List ℕ) → Appends taken (with_more taken (Some bytes)) bytes
 whole_later None bytes = tt
@@ -25,15 +30,15 @@ has_content s it bytes h = record { object = it.object; file = h.file; held = h.
 pub in_steps : (old new : Condition) (taken : Option (List ℕ)) (it : StoredFile) (bytes : List ℕ)
     → (HasCleanDisk new → (s : State) → Represents new s → HasBehind s it 0 bytes)
     → (HasCleanDisk new → (s : State) → Represents old s → Represents new s)
-    → SendsContent {A = Unit {0}} old new taken taken it (Some (record { file = it; sent = 0 })) (Ok tt)
+    → SendsContent old new taken taken it (Ok (Some (record { file = it; sent = 0 })))
 in_steps old new taken it bytes has stays =
     (Some bytes, (bytes, refl, has), (bytes, whole_later taken bytes, λ disk s represents. has_content s it bytes (has disk s (stays disk s represents))))
 
 -- none is sent, now or later
-pub never_begun : (old new : Condition) (taken : Option (List ℕ)) (it : StoredFile) (r : Option Rest) (fault : StreamFault) → r ≡ None
-    → ((s : State) → IsStreamed {X = Unit {0}} s it.file [] (Err fault))
-    → SendsContent {A = Unit {0}} old new taken taken it r (Err fault)
-never_begun old new taken it r fault none is = (None, none_later new r none, ([], Appends-nil taken, λ disk s represents. is s))
+pub never_begun : (old new : Condition) (taken : Option (List ℕ)) (it : StoredFile) (fault : StreamFault)
+    → ((s : State) → IsStreamed {X = Option Rest} s it.file [] (Err fault))
+    → SendsContent old new taken taken it (Err fault)
+never_begun old new taken it fault is = (None, refl, ([], Appends-nil taken, λ disk s represents. is s))
 
 -- bytes were sent, and then others
 pub takes_both : (a b c : Option (List ℕ)) → TakesSome a b → TakesSome b c → TakesSome a c

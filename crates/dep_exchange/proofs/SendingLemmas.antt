@@ -15,6 +15,7 @@ use Rattle.dep_answers.specs.declared.performed.Performed.{Performed}
 use Rattle.dep_types.specs.Conditions.{Condition, Represents, HasCleanDisk, Leaves}
 use Rattle.dep_exchange.specs.Performing.{Performs}
 use Rattle.dep_exchange.specs.Sending.{SendsReply, Outside, Passes, SendsReady}
+use Rattle.dep_exchange.specs.declared.rest.Rest.{Rest}
 use Rattle.dep_exchange.specs.declared.sending.Answered.{Answered}
 use Rattle.dep_exchange.specs.declared.sending.Answered.TheVariants.{Sent, GaveUp, CutShort}
 use Rattle.dep_exchange.proofs.Leaving.{Settles, stays_as}
@@ -79,7 +80,7 @@ module _ (d : Condition) (s : State) (represents : Represents d s) (id : StoredF
   nothing_or_part sent (inl e) = subst (λ (l : List ℕ). IsProperPrefix l stored) (sym e) (nothing_of stored some)
   nothing_or_part sent (inr h) = part_of sent h
 
-  part_sent : (sent : List ℕ) (fault : StreamFault) → IsStreamed {X = Unit {0}} s id.file sent (Err fault) → IsProperPrefix sent stored
+  part_sent : (sent : List ℕ) (fault : StreamFault) → IsStreamed {X = Option Rest} s id.file sent (Err fault) → IsProperPrefix sent stored
   part_sent sent Writer h = part_of sent h
   part_sent sent Store h = nothing_or_part sent h
   part_sent sent Memory h = nothing_or_part sent h
@@ -120,7 +121,7 @@ module _ (old mid new : Outside) (p : Performed) (id : StoredFile) (is : p.store
   }
 
   pub ready_cut : (fault : StreamFault) (x : (sent : List ℕ) × Appends mid.taken new.taken sent
-      × (HasCleanDisk new.store → (s : State) → Represents old.store s → IsStreamed {X = Unit {0}} s id.file sent (Err fault)))
+      × (HasCleanDisk new.store → (s : State) → Represents old.store s → IsStreamed {X = Option Rest} s id.file sent (Err fault)))
       → (IsTrue new.store.is_open → (s : State) → Represents old.store s → Represents new.store s)
       → (HasCleanDisk new.store → (s : State) → Represents old.store s → Leaves new.store (λ left. left ≡ s))
       → SendsReady old new p CutShort

@@ -48,8 +48,9 @@ reports_still store settles reported r reports = record {
 }
 
 -- it failed before the archive was asked
-pub step_unasked : {E : Type 0} (store : Condition) → Settles store → (stepped : State → Stepped) (fault : E) → MakesStep store store Always stepped (Err fault)
-step_unasked store settles stepped fault = record {
+pub fails_unasked : {A E : Type 0} (store : Condition) → Settles store → (reported : State → A → Type 0) (next : State → State) (fault : E)
+    → TriesTo store store Always reported next (Err fault)
+fails_unasked store settles reported next fault = record {
   ok = λ clean s at _. tt;
   err = λ is_open s at. at;
   honest = λ clean. clean;
@@ -110,11 +111,6 @@ module _ {E : Type 0} (config : Config) (m : Message) (clock : ℕ) (head_only c
   pub not_allowed_answered : (methods : List ℕ) → NotAllowed methods ≡ target m.head.method m.head.path → Refuses why.MethodNotAllowed (Some methods)
       → AnswersIt config m store store clock r (target m.head.method m.head.path)
   not_allowed_answered methods named e = subst (AnswersIt config m store store clock r) named (refused_still why.MethodNotAllowed (Some methods) e)
-
--- operations that are one
-pub asks_same : {E : Type 0} (config : Config) (old new : Condition) (r : Result Performed E) (op it : Operation) → op ≡ it
-    → MakesStep old new Always (λ s. operation_step config s op) r → MakesStep old new Always (λ s. operation_step config s it) r
-asks_same config old new r op it e h = subst (λ (x : Operation). MakesStep old new Always (λ s. operation_step config s x) r) e h
 
 -- what is asked for doesn't hang on the path, which the resource was read from
 pub same_operation : (m : Message) (h : HeadParts) (t : Target) → h ≡ record { method = m.head.method; path = []; minor = m.head.minor; fields = m.head.fields }

@@ -79,10 +79,15 @@ abbrev pub Owing : {O : Type 0} → (g : Ghosts O) → (before after : O) → Co
 Owing g before after store rest reported = (more : Option (List ℕ)) × IsLater store rest more
     × TakesSome (g.taken before) (g.taken after) × reported (outside_with g after store more)
 
+-- what is sent later, if it didn't fail
+abbrev pub rest_of : Result (Option Rest) StreamFault → Option Rest
+rest_of (Ok rest) = rest
+rest_of (Err fault) = None
+
 -- the content of a file goes out behind a front, now or later
-abbrev pub SendsContent : {A : Type 0} → (old new : Condition) → (taken takes : Option (List ℕ)) → StoredFile
-    → Option Rest → Result A StreamFault → Type 0
-SendsContent old new taken takes it rest result =
-    (more : Option (List ℕ)) × IsLater new rest more
+abbrev pub SendsContent : (old new : Condition) → (taken takes : Option (List ℕ)) → StoredFile
+    → Result (Option Rest) StreamFault → Type 0
+SendsContent old new taken takes it result =
+    (more : Option (List ℕ)) × IsLater new (rest_of result) more
     × ((sent : List ℕ) × Appends taken (with_more takes more) sent
     × (HasCleanDisk new → (s : State) → Represents old s → IsStreamed s it.file sent result))

@@ -10,6 +10,7 @@ ghost use Rattle.dep_exchange.specs.ArchiveCalls.{CallLog, Asked, WorkedAhead, R
 ghost use Rattle.dep_exchange.specs.Archives.{Ticks, MakesStep, Streams, KeepsState, KeepsAll, KeepsEachState, CommitsIfDue, FallsDue, FailsIfShut, CountsFailures};
 ghost use Rattle.dep_exchange.specs.Owing.{Begins, StreamsOn, TakesFew};
 
+use crate::rest::Rest;
 use dep_answers::{Performed, Service, StoredFile};
 use dep_decisions::Operation;
 use dep_moment::Moment;
@@ -70,16 +71,11 @@ pub trait Archive {
         ensures commits { may_commit self.new ≡ may_commit self.old }
         ensures shut { FailsIfShut (condition self.old) (condition self.new) result };
 
-    /// Sends a few blocks of the content of a file, behind so many of its bytes. It returns how many are sent
-    /// then, or `None` where all are.
-    fn stream_on<O: Outlet>(
-        &mut self,
-        it: StoredFile,
-        start: u64,
-        out: &mut O,
-    ) -> Result<Option<u64>, StreamFault>
+    /// Sends a few blocks of what is left of a content. It returns how many of its bytes are sent then, or `None` where
+    /// all are.
+    fn stream_on<O: Outlet>(&mut self, rest: Rest, out: &mut O) -> Result<Option<u64>, StreamFault>
         ensures streams { StreamsOn (condition self.old) (condition self.new)
-            (O.taken out.old) (O.taken out.new) it start result }
+            (O.taken out.old) (O.taken out.new) rest.file rest.sent result }
         // Others wait for no more than that.
         ensures few { TakesFew (O.taken out.old) (O.taken out.new) }
         ensures does { KeepsState (condition self.old) (condition self.new) result }

@@ -15,7 +15,7 @@ mod step;
 pub use access_log::{AccessLog, NoLog};
 pub use archive::{Archive, ROUNDS_TO_REPLY};
 pub use arrived::Arrived;
-pub use contents::{Contents, InSteps};
+pub use contents::Contents;
 pub use next::Next;
 pub use rest::Rest;
 pub use sending::Answered;

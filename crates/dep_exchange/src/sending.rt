@@ -7,6 +7,7 @@ ghost use Rattle.dep_exchange.specs.Owing.{Owing};
 use crate::access_log::AccessLog;
 use crate::archive::Archive;
 use crate::contents::Contents;
+use crate::rest::Rest;
 use dep_answers::Performed;
 use dep_types::{Outlet, StoreFault, WriteFailed};
 
@@ -75,28 +76,29 @@ pub(crate) fn send<O: Outlet>(out: &mut O, reply: &[u8]) -> Answered
     }
 }
 
-/// Sends what is ready: its front as one write, and the content of a file behind it, now or later.
-pub(crate) fn send_performed<A: Archive, O: Outlet, L: AccessLog, C: Contents>(
+/// Sends what is ready: its front as one write, and the content of a file behind it, now or later. It returns what is
+/// sent later.
+pub(crate) fn send_performed<A: Archive, O: Outlet, L: AccessLog>(
     store: &mut A,
     performed: &Performed,
+    contents: Contents,
     out: &mut O,
     log: &mut L,
-    contents: &mut C,
-) -> Answered
-    requires { C.rest contents.old ≡ None }
-    ensures owing { Owing O.Outlet out.old out.new (A.condition store.new) (C.rest contents.new) (λ new.
-        SendsReady (outside_of O.Outlet out.old (A.condition store.old)) new performed.now result) }
-    ensures begins { IfSome (C.rest contents.new) (λ r. performed.now.stored ≡ Some r.file) }
+) -> (Answered, Option<Rest>)
+    ensures owing { Owing O.Outlet out.old out.new (A.condition store.new) result.1 (λ new.
+        SendsReady (outside_of O.Outlet out.old (A.condition store.old)) new performed.now result.0) }
+    ensures begins { IfSome result.1 (λ r. performed.now.stored ≡ Some r.file) }
+    ensures at_once { contents ≡ Contents.AtOnce → result.1 ≡ None }
 {
     log.reply(performed.status.number(), performed.refusal);
     match send(out, performed.front.as_slice()) {
         Answered::Sent => match performed.stored {
             Some(it) => match contents.deliver(store, it, out) {
-                Ok(()) => Answered::Sent,
-                Err(_) => Answered::CutShort,
+                Ok(rest) => (Answered::Sent, rest),
+                Err(_) => (Answered::CutShort, None),
             },
-            None => Answered::Sent,
+            None => (Answered::Sent, None),
         },
-        answered => answered,
+        answered => (answered, None),
     }
 }

@@ -9,8 +9,9 @@ ghost use Rattle.dep_exchange.specs.Nexts.{TakesNext, ReportsLackOfMemory, ended
 use crate::access_log::{AccessLog, NoLog};
 use crate::archive::Archive;
 use crate::arrived::Arrived;
-use crate::contents::{AtOnce, Contents};
+use crate::contents::Contents;
 use crate::next::Next;
+use crate::rest::Rest;
 use crate::sending::{Answered, send_fault};
 use crate::site::{Context, Site};
 use crate::step::{StreamRefusal, WholeMessage, answer_continue, answer_fault, answer_message};
@@ -49,9 +50,11 @@ pub fn serve<A: Archive, O: Outlet>(
     let context = Context {
         site,
         moment: piece.moment,
+        contents: Contents::AtOnce,
     };
     loop {
-        match answer_next(&context, store, intake, out, &mut NoLog) {
+        let (next, _) = take_next(&context, store, intake, out, &mut NoLog);
+        match next {
             Next::More => {}
             Next::Waiting => return Arrived::Open,
             Next::Closed => return Arrived::Closed,
@@ -61,59 +64,43 @@ pub fn serve<A: Archive, O: Outlet>(
     }
 }
 
-/// Answers the next item, where one is complete, with all of its reply. It is never `NoSuch`.
-pub(crate) fn answer_next<A: Archive, O: Outlet, L: AccessLog>(
+/// Answers the next item, where one is complete. It returns how the connection then stands, which is never `NoSuch`, and
+/// what of a content behind the reply is to be sent later.
+pub fn take_next<A: Archive, O: Outlet, L: AccessLog>(
     context: &Context<'_>,
     store: &mut A,
     intake: &mut Intake,
     out: &mut O,
     log: &mut L,
-) -> Next
-    ensures { TakesNext context.now.site.now intake.old intake.new context.now.moment
-        (outside_of O.Outlet out.old (A.condition store.old))
-        (outside_of O.Outlet out.new (A.condition store.new)) result }
-{
-    take_next(context, store, intake, out, log, &mut AtOnce)
-}
-
-/// Answers the next item, where one is complete, and a content behind the reply goes out now or later. It is
-/// never `NoSuch`.
-pub fn take_next<A: Archive, O: Outlet, L: AccessLog, C: Contents>(
-    context: &Context<'_>,
-    store: &mut A,
-    intake: &mut Intake,
-    out: &mut O,
-    log: &mut L,
-    contents: &mut C,
-) -> Next
-    requires { C.rest contents.old ≡ None }
-    ensures owing { Owing O.Outlet out.old out.new (A.condition store.new) (C.rest contents.new) (λ new.
+) -> (Next, Option<Rest>)
+    ensures owing { Owing O.Outlet out.old out.new (A.condition store.new) result.1 (λ new.
         TakesNext context.now.site.now intake.old intake.new context.now.moment
-        (outside_of O.Outlet out.old (A.condition store.old)) new result) }
+        (outside_of O.Outlet out.old (A.condition store.old)) new result.0) }
     // What is sent later is what the item asks for.
-    ensures begins { IfSome (C.rest contents.new) (BeginsFirst context.now.site.now
+    ensures begins { IfSome result.1 (BeginsFirst context.now.site.now
         intake.old context.now.moment (A.condition store.old) (A.condition store.new)) }
+    ensures at_once { context.now.contents ≡ Contents.AtOnce → result.1 ≡ None }
 {
     match intake.next() {
-        Err(AllocError) => last(give_up(intake, out, log)),
-        Ok(Step::NeedMore) => Next::Waiting,
-        Ok(Step::Dead) => Next::Closed,
+        Err(AllocError) => (last(give_up(intake, out, log)), None),
+        Ok(Step::NeedMore) => (Next::Waiting, None),
+        Ok(Step::Dead) => (Next::Closed, None),
         Ok(Step::Refused(refusal, is_head_only)) => {
             let fault = StreamRefusal {
                 refusal,
                 is_head_only,
             };
-            let answer = answer_fault(context, store, fault, out, log, contents);
-            next_after(intake, answer, true)
+            let (answer, rest) = answer_fault(context, store, fault, out, log);
+            (next_after(intake, answer, true), rest)
         }
         Ok(Step::Continue100) => {
             let answer = answer_continue(store, out);
-            next_after(intake, answer, false)
+            (next_after(intake, answer, false), None)
         }
         Ok(Step::Message(message, is_last)) => {
             let item = WholeMessage { message, is_last };
-            let answer = answer_message(context, store, item, out, log, contents);
-            next_after(intake, answer, is_last)
+            let (answer, rest) = answer_message(context, store, item, out, log);
+            (next_after(intake, answer, is_last), rest)
         }
     }
 }

@@ -1,6 +1,7 @@
 //! What every request is answered from.
 ghost use Rattle.std.specs.Prelude.{◌≡◌, IfOk};
 
+use crate::contents::Contents;
 use dep_answers::Service;
 use dep_moment::Moment;
 use dep_router::Routes;
@@ -17,13 +18,15 @@ pub struct Site {
     pub routes: Routes,
 }
 
-/// What an item is answered from, and when.
+/// What an item is answered from, when, and how.
 #[derive(Clone, Copy)]
 pub struct Context<'a> {
     /// The service and the routes.
     pub site: &'a Site,
     /// When it came.
     pub moment: Moment,
+    /// How a content behind the reply goes out.
+    pub contents: Contents,
 }
 
 impl Model for Site {

@@ -6,8 +6,8 @@ ghost use Rattle.dep_types.specs.declared.config.Config.{Config as Settings};
 ghost use Rattle.dep_message.specs.Heads.{closes};
 ghost use Rattle.dep_message.specs.Stream.{Fault, Continue, Request};
 ghost use Rattle.dep_answers.specs.Performing.{IsReady};
-ghost use Rattle.dep_answers.specs.Steps.{operation_step, refused_step};
-ghost use Rattle.dep_exchange.specs.Archives.{TriesTo, MakesStep, Always};
+ghost use Rattle.dep_answers.specs.Steps.{refused_step};
+ghost use Rattle.dep_exchange.specs.Archives.{TriesTo, Always};
 ghost use Rattle.dep_exchange.specs.Machine.{operation_of, message_step};
 ghost use Rattle.dep_exchange.specs.Sending.{outside_of};
 ghost use Rattle.dep_exchange.specs.Serving.{Answers, EndsAsAsked};
@@ -17,9 +17,10 @@ ghost use Rattle.dep_exchange.specs.Serving.{BeginsSource};
 use crate::access_log::AccessLog;
 use crate::archive::Archive;
 use crate::contents::Contents;
+use crate::rest::Rest;
 use crate::sending::{Answered, send, send_fault, send_performed};
 use crate::site::{Context, Site};
-use dep_answers::{Delivery, Performed, Service, refused};
+use dep_answers::{Delivery, Performed, refused};
 use dep_decisions::Operation;
 use dep_fields::SwordFields;
 use dep_fixity::HashedOctets;
@@ -45,21 +46,21 @@ pub(crate) struct WholeMessage {
     pub is_last: bool,
 }
 
-/// Steps a whole message: the clock goes on, and then the message is answered.
-pub(crate) fn answer_message<A: Archive, O: Outlet, L: AccessLog, C: Contents>(
+/// Steps a whole message: the clock goes on, and then the message is answered. It returns what is sent later.
+pub(crate) fn answer_message<A: Archive, O: Outlet, L: AccessLog>(
     context: &Context<'_>,
     store: &mut A,
     item: WholeMessage,
     out: &mut O,
     log: &mut L,
-    contents: &mut C,
-) -> Answered
-    requires { (C.rest contents.old ≡ None) × EndsAsAsked item }
-    ensures owing { Owing O.Outlet out.old out.new (A.condition store.new) (C.rest contents.new) (λ new.
+) -> (Answered, Option<Rest>)
+    requires { EndsAsAsked item }
+    ensures owing { Owing O.Outlet out.old out.new (A.condition store.new) result.1 (λ new.
         Answers context.now.site.now (outside_of O.Outlet out.old (A.condition store.old)) new
-        (Request item.message) context.now.moment result) }
-    ensures begins { IfSome (C.rest contents.new) (BeginsSource context.now.site.now
+        (Request item.message) context.now.moment result.0) }
+    ensures begins { IfSome result.1 (BeginsSource context.now.site.now
         (Request item.message) context.now.moment (A.condition store.old) (A.condition store.new)) }
+    ensures at_once { context.now.contents ≡ Contents.AtOnce → result.1 ≡ None }
 {
     let message = &item.message;
     let length = message.content.as_slice().len() as u64;
@@ -67,15 +68,15 @@ pub(crate) fn answer_message<A: Archive, O: Outlet, L: AccessLog, C: Contents>(
     match store.tick(context.site.service().config(), context.moment) {
         Ok(clock) => match answer_routed(context.site, store, item, clock) {
             Ok(performed) => {
-                let answered = send_performed(store, &performed, out, log, contents);
+                let answered = send_performed(store, &performed, context.contents, out, log);
                 drop(performed);
                 answered
             }
-            Err(fault) => send_fault(fault, out, log),
+            Err(fault) => (send_fault(fault, out, log), None),
         },
         Err(fault) => {
             drop(item);
-            send_fault(fault, out, log)
+            (send_fault(fault, out, log), None)
         }
     }
 }
@@ -90,33 +91,33 @@ pub(crate) fn answer_continue<A: Archive, O: Outlet>(store: &A, out: &mut O) -> 
     send(out, b"HTTP/1.1 100 Continue\r\n\r\n")
 }
 
-/// Steps a fault of a stream: the clock goes on, and the connection is closed after the reply.
-pub(crate) fn answer_fault<A: Archive, O: Outlet, L: AccessLog, C: Contents>(
+/// Steps a fault of a stream: the clock goes on, and the connection is closed after the reply. It returns what is sent
+/// later.
+pub(crate) fn answer_fault<A: Archive, O: Outlet, L: AccessLog>(
     context: &Context<'_>,
     store: &mut A,
     fault: StreamRefusal,
     out: &mut O,
     log: &mut L,
-    contents: &mut C,
-) -> Answered
-    requires { C.rest contents.old ≡ None }
-    ensures owing { Owing O.Outlet out.old out.new (A.condition store.new) (C.rest contents.new) (λ new.
+) -> (Answered, Option<Rest>)
+    ensures owing { Owing O.Outlet out.old out.new (A.condition store.new) result.1 (λ new.
         Answers context.now.site.now (outside_of O.Outlet out.old (A.condition store.old)) new
-        (Fault fault.refusal fault.is_head_only) context.now.moment result) }
-    ensures begins { IfSome (C.rest contents.new) (BeginsSource context.now.site.now
+        (Fault fault.refusal fault.is_head_only) context.now.moment result.0) }
+    ensures begins { IfSome result.1 (BeginsSource context.now.site.now
         (Fault fault.refusal fault.is_head_only) context.now.moment
         (A.condition store.old) (A.condition store.new)) }
+    ensures at_once { context.now.contents ≡ Contents.AtOnce → result.1 ≡ None }
 {
     match store.tick(context.site.service().config(), context.moment) {
         Ok(clock) => match refuse(context.site.alloc(), clock, fault, None, true) {
             Ok(performed) => {
-                let answered = send_performed(store, &performed, out, log, contents);
+                let answered = send_performed(store, &performed, context.contents, out, log);
                 drop(performed);
                 answered
             }
-            Err(store_fault) => send_fault(store_fault, out, log),
+            Err(store_fault) => (send_fault(store_fault, out, log), None),
         },
-        Err(store_fault) => send_fault(store_fault, out, log),
+        Err(store_fault) => (send_fault(store_fault, out, log), None),
     }
 }
 
@@ -137,18 +138,15 @@ fn answer_routed<A: Archive>(
     let alloc = site.alloc();
     let mut message = message;
     let path = message.head.take_path();
-    match site.routes.route(message.head.method(), path) {
-        Routed::To(target) => {
-            let item = WholeMessage { message, is_last };
-            perform_operation(site.service(), store, item, target)
-        }
+    let target = match site.routes.route(message.head.method(), path) {
+        Routed::To(target) => target,
         Routed::NotFound => {
             drop(message);
             let why = StreamRefusal {
                 refusal: Refusal::NotFound,
                 is_head_only,
             };
-            refuse(alloc, clock, why, None, is_last)
+            return refuse(alloc, clock, why, None, is_last);
         }
         Routed::NotAllowed(methods) => {
             drop(message);
@@ -156,7 +154,20 @@ fn answer_routed<A: Archive>(
                 refusal: Refusal::MethodNotAllowed,
                 is_head_only,
             };
-            refuse(alloc, clock, why, Some(methods.as_str()), is_last)
+            return refuse(alloc, clock, why, Some(methods.as_str()), is_last);
+        }
+    };
+    let Message { head, content } = message;
+    match operation_of(alloc, &head, content, target, is_last) {
+        Ok(operation) => {
+            let performed = store.perform(site.service(), &operation);
+            drop(operation);
+            drop(head);
+            performed
+        }
+        Err(AllocError) => {
+            drop(head);
+            Err(StoreFault::Memory)
         }
     }
 }
@@ -174,33 +185,6 @@ fn refuse(
 {
     let delivery = Delivery::new(clock, why.is_head_only, closes);
     refused(alloc, why.refusal, allow, delivery)
-}
-
-// What is replied to a request for a resource.
-fn perform_operation<A: Archive>(
-    service: &Service,
-    store: &mut A,
-    item: WholeMessage,
-    target: Target,
-) -> Result<Performed, StoreFault>
-    requires { EndsAsAsked item }
-    ensures { MakesStep (A.condition store.old) (A.condition store.new) Always
-        (λ s. operation_step service.now s (operation_of item.message target)) result }
-{
-    let WholeMessage { message, is_last } = item;
-    let Message { head, content } = message;
-    match operation_of(service.alloc(), &head, content, target, is_last) {
-        Ok(operation) => {
-            let performed = store.perform(service, &operation);
-            drop(operation);
-            drop(head);
-            performed
-        }
-        Err(AllocError) => {
-            drop(head);
-            Err(StoreFault::Memory)
-        }
-    }
 }
 
 // The request that a message is.

@@ -18,7 +18,7 @@ use crate::preparing::prepare;
 use crate::rest::{Behind, behind_of};
 use crate::sent_on::SentOn;
 use dep_exchange::{
-    AccessLog, Archive, Arrived, Context, InSteps, Next, NoLog, Piece, Rest, Site, give_up, serve,
+    AccessLog, Archive, Arrived, Contents, Context, Next, NoLog, Piece, Rest, Site, give_up, serve,
     take_next,
 };
 use dep_message::Intake;
@@ -319,17 +319,10 @@ impl<A: Archive> Hub<A> {
         let context = Context {
             site: &self.config,
             moment,
+            contents: Contents::InSteps,
         };
-        let mut contents = InSteps { rest: None };
-        let next = take_next(
-            &context,
-            &mut self.store,
-            &mut kept.intake,
-            out,
-            log,
-            &mut contents,
-        );
-        let behind = behind_of(contents.rest);
+        let (next, rest) = take_next(&context, &mut self.store, &mut kept.intake, out, log);
+        let behind = behind_of(rest);
         kept.behind = behind;
         self.is_busy = still_pending(self.connections.as_slice(), self.is_busy, behind);
         self.is_awaiting = still_waiting(self.connections.as_slice(), self.is_awaiting);
@@ -382,7 +375,7 @@ impl<A: Archive> Hub<A> {
             Behind::Nothing | Behind::Waits(_) | Behind::Prepares(_) | Behind::Prepared =>
                 SentOn::All,
             Behind::Broken => SentOn::Broken,
-            Behind::Content(rest) => match self.store.stream_on(rest.file, rest.sent, out) {
+            Behind::Content(rest) => match self.store.stream_on(rest, out) {
                 Ok(Some(sent)) => {
                     kept.behind = Behind::Content(Rest {
                         file: rest.file,

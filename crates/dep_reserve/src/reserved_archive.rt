@@ -11,7 +11,7 @@ ghost use Rattle.dep_reserve.specs.Reserving.{brings_content, is_low, turns_away
 use crate::reserve::Reserve;
 use dep_answers::{Performed, Service, StoredFile};
 use dep_decisions::Operation;
-use dep_exchange::Archive;
+use dep_exchange::{Archive, Rest};
 use dep_moment::Moment;
 use dep_types::{Config, Method, Outlet, StoreFault, StreamFault};
 
@@ -190,14 +190,9 @@ impl<A: Archive, R: Reserve + Drop> Archive for ReservedArchive<A, R> {
         self.archive.begin(it)
     }
 
-    fn stream_on<O: Outlet>(
-        &mut self,
-        it: StoredFile,
-        start: u64,
-        out: &mut O,
-    ) -> Result<Option<u64>, StreamFault>
+    fn stream_on<O: Outlet>(&mut self, rest: Rest, out: &mut O) -> Result<Option<u64>, StreamFault>
         ensures streams { StreamsOn (A.condition self.old.archive) (A.condition self.new.archive)
-            (O.taken out.old) (O.taken out.new) it start result }
+            (O.taken out.old) (O.taken out.new) rest.file rest.sent result }
         ensures few { TakesFew (O.taken out.old) (O.taken out.new) }
         ensures does { KeepsState (A.condition self.old.archive) (A.condition self.new.archive)
             result }
@@ -207,7 +202,7 @@ impl<A: Archive, R: Reserve + Drop> Archive for ReservedArchive<A, R> {
         ensures count { CountsFailures (O.failures out.old) (O.failures out.new) result }
         ensures rest { self.new ≡ record self.old { archive = self.new.archive } }
     {
-        self.archive.stream_on(it, start, out)
+        self.archive.stream_on(rest, out)
     }
 
     fn is_open(&mut self) -> Result<bool, StoreFault> {

@@ -17,7 +17,7 @@ use crate::log_copy::LogCopy;
 use crate::store::Store;
 use dep_answers::{Performed, Service, StoredFile};
 use dep_decisions::Operation;
-use dep_exchange::Archive;
+use dep_exchange::{Archive, Rest};
 use dep_moment::Moment;
 use dep_staging::RunningHashes;
 use dep_types::{Config, Method, Outlet, Resource, StoreFault, StreamFault};
@@ -129,13 +129,8 @@ impl<S: Alter> Archive for HashingStore<S> {
         self.store.begin(it)
     }
 
-    fn stream_on<O: Outlet>(
-        &mut self,
-        it: StoredFile,
-        start: u64,
-        out: &mut O,
-    ) -> Result<Option<u64>, StreamFault> {
-        self.store.stream_on(it, start, out)
+    fn stream_on<O: Outlet>(&mut self, rest: Rest, out: &mut O) -> Result<Option<u64>, StreamFault> {
+        self.store.stream_on(rest.file, rest.sent, out)
     }
 
     fn is_open(&mut self) -> Result<bool, StoreFault> {

@@ -3,9 +3,9 @@ use Rattle.dep_answers.specs.declared.performed.StoredFile.{StoredFile}
 use Rattle.dep_exchange.specs.Sending.{outside}
 use Rattle.dep_exchange.specs.Owing.{with_more}
 use Rattle.dep_exchange.proofs.Leaving.{leaves_once}
-use Rattle.dep_exchange.proofs.OwingLemmas.{none_later, takes_both}
+use Rattle.dep_exchange.proofs.OwingLemmas.{takes_both}
 use Rattle.dep_exchange.proofs.SendingLemmas.{ready_all, ready_cut, ready_front, front_cut}
-use Rattle.dep_exchange.proofs.BeginLemmas.{begins_as, unbegun}
+use Rattle.dep_exchange.proofs.BeginLemmas.{begins_as}
 use Rattle.dep_exchange.proofs.sending.send_performed.Goals as goal
 
 pub returns-in-Ok-clause-owing : goal.returns-in-Ok-clause-owing
@@ -41,7 +41,7 @@ returns-in-Err-clause-owing g c =
 pub returns-in-None-clause-owing : goal.returns-in-None-clause-owing
 returns-in-None-clause-owing g c = (
   None,
-  none_later (g.A.Archive.condition c.args.store.now) _ c.requires,
+  refl,
   (c.in-Sent.ensures.sends.0, c.in-Sent.ensures.sends.1),
   ready_front (g.O.Outlet.taken c.args.out.now) (g.O.Outlet.taken c.send.new.out) (g.O.Outlet.failures c.args.out.now) (g.O.Outlet.failures c.send.new.out)
       (g.A.Archive.condition c.args.store.now) c.args.performed.now c.as_slice.result.now c.as_slice.ensures.value c.in-None.is c.in-Sent.ensures.sends (c.in-Sent.ensures.kept refl),
@@ -50,7 +50,7 @@ returns-in-None-clause-owing g c = (
 pub returns-in_default-clause-owing : goal.returns-in_default-clause-owing
 returns-in_default-clause-owing g c = (
   None,
-  none_later (g.A.Archive.condition c.args.store.now) _ c.requires,
+  refl,
   (c.send.ensures.sends.0, c.send.ensures.sends.1),
   front_cut (g.O.Outlet.taken c.args.out.now) (g.O.Outlet.taken c.send.new.out) (g.O.Outlet.failures c.args.out.now) (g.O.Outlet.failures c.send.new.out)
       (g.A.Archive.condition c.args.store.now) c.args.performed.now c.as_slice.result.now c.send.result c.as_slice.ensures.value
@@ -58,15 +58,5 @@ returns-in_default-clause-owing g c = (
 )
 
 pub returns-in-Ok-clause-begins : goal.returns-in-Ok-clause-begins
-returns-in-Ok-clause-begins g c = begins_as (λ r. r.file ≡ c.in-Some.it) (λ r. c.args.performed.now.stored ≡ Some r.file) (g.C.Contents.rest c.deliver.new.self)
-    (λ r is. c.in-Some.is ∙ ap (λ (it : StoredFile). Some it) (sym is)) c.deliver.ensures.begins
-
-pub returns-in-Err-clause-begins : goal.returns-in-Err-clause-begins
-returns-in-Err-clause-begins g c = begins_as (λ r. r.file ≡ c.in-Some.it) (λ r. c.args.performed.now.stored ≡ Some r.file) (g.C.Contents.rest c.deliver.new.self)
-    (λ r is. c.in-Some.is ∙ ap (λ (it : StoredFile). Some it) (sym is)) c.deliver.ensures.begins
-
-pub returns-in-None-clause-begins : goal.returns-in-None-clause-begins
-returns-in-None-clause-begins g c = unbegun _ _ c.requires
-
-pub returns-in_default-clause-begins : goal.returns-in_default-clause-begins
-returns-in_default-clause-begins g c = unbegun _ _ c.requires
+returns-in-Ok-clause-begins g c = begins_as (λ r. r.file ≡ c.in-Some.it) (λ r. c.args.performed.now.stored ≡ Some r.file) c.in-Ok.rest
+    (λ r is. c.in-Some.is ∙ ap (λ (it : StoredFile). Some it) (sym is)) c.in-Ok.ensures.begins

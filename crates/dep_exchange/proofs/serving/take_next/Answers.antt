@@ -1,13 +1,13 @@
-use Rattle.std.proofs.Common.{None, true, false, sym, ap, subst, ◌∙◌}
+use Rattle.std.proofs.Common.{None, true, false, refl, sym, ap, subst, ◌∙◌}
 use Rattle.dep_message.specs.Places.{Reading}
 use Rattle.dep_message.specs.Stream.{Fault, Continue, Request}
 use Rattle.dep_exchange.specs.Sending.{outside}
 use Rattle.dep_exchange.specs.Serving.{BeginsFirst, BeginsSource, IsDeadIfShut}
 use Rattle.dep_exchange.specs.Owing.{with_more}
-use Rattle.dep_exchange.proofs.OwingLemmas.{none_later, takes_none}
+use Rattle.dep_exchange.proofs.OwingLemmas.{takes_none}
 use Rattle.dep_exchange.proofs.ServingLemmas.{continue_goes_on, request_shuts, request_goes_on, fault_shuts}
 use Rattle.dep_exchange.proofs.NextLemmas.{waiting_more, closed_more, never_more, ends_dead, rests_same, runs_out, ends_out, dead_ends, takes_next}
-use Rattle.dep_exchange.proofs.BeginLemmas.{begins_as, unbegun}
+use Rattle.dep_exchange.proofs.BeginLemmas.{begins_as}
 use Rattle.dep_exchange.proofs.serving.take_next.Goals as goal
 
 pub returns-in-Err-clause-owing : goal.returns-in-Err-clause-owing
@@ -16,7 +16,7 @@ returns-in-Err-clause-owing g c =
     let store = g.A.Archive.condition c.args.store.now in
     let shut = c.give_up.ensures.shut in (
       None,
-      none_later (g.A.Archive.condition c.args.store.now) _ c.requires,
+      refl,
       (c.give_up.ensures.sent.0, c.give_up.ensures.sent.1),
       record {
         answers = ends_out c.args.context.now.site.now c.args.intake.now c.args.context.now.moment
@@ -37,7 +37,7 @@ pub returns-in-Ok-NeedMore-clause-owing : goal.returns-in-Ok-NeedMore-clause-owi
 returns-in-Ok-NeedMore-clause-owing g c =
     let h = rw c.in-Ok-NeedMore.field-0-is at c.in-Ok-NeedMore.ensures in (
       None,
-      none_later (g.A.Archive.condition c.args.store.now) _ c.requires,
+      refl,
       takes_none (g.O.Outlet.taken c.args.out.now),
       record {
         answers = record {
@@ -58,7 +58,7 @@ pub returns-in-Ok-Dead-clause-owing : goal.returns-in-Ok-Dead-clause-owing
 returns-in-Ok-Dead-clause-owing g c =
     let h = rw c.in-Ok-Dead.field-0-is at c.in-Ok-Dead.ensures in (
       None,
-      none_later (g.A.Archive.condition c.args.store.now) _ c.requires,
+      refl,
       takes_none (g.O.Outlet.taken c.args.out.now),
       record {
         answers = dead_ends c.args.context.now.site.now c.args.intake.now c.args.context.now.moment
@@ -81,7 +81,7 @@ returns-in-Ok-Refused-clause-owing g c =
       takes_next c.args.context.now.site.now c.args.intake.now c.next.new.self c.args.context.now.moment
           (outside (g.O.Outlet.taken c.args.out.now) (g.O.Outlet.failures c.args.out.now) (g.A.Archive.condition c.args.store.now))
           (outside (with_more (g.O.Outlet.taken c.answer_fault-answer.new.out) y.0) (g.O.Outlet.failures c.answer_fault-answer.new.out) (g.A.Archive.condition c.answer_fault-answer.new.store))
-          (Fault c.in-Ok-Refused.refusal c.in-Ok-Refused.is_head_only) h c.answer_fault-answer.result true
+          (Fault c.in-Ok-Refused.refusal c.in-Ok-Refused.is_head_only) h c.answer_fault-answer.result.0 true
           (λ _. fault_shuts _ _ _ _ _ h.first) (λ e. cc) y.3
           c.next_after.new.intake c.next_after.ensures.read c.next_after.result c.next_after.ensures.next,
     )
@@ -92,7 +92,7 @@ returns-in-Ok-Continue100-clause-owing g c =
     let store = g.A.Archive.condition c.args.store.now in
     let sent = c.answer_continue-answer.ensures c.args.context.now.site.now c.args.context.now.moment in (
       None,
-      none_later store _ c.requires,
+      refl,
       (sent.sent, sent.passes.appends),
       takes_next c.args.context.now.site.now c.args.intake.now c.next.new.self c.args.context.now.moment
           (outside (g.O.Outlet.taken c.args.out.now) (g.O.Outlet.failures c.args.out.now) store)
@@ -103,7 +103,7 @@ returns-in-Ok-Continue100-clause-owing g c =
     )
 
 pub answer_message-answer-requires : goal.answer_message-answer-requires
-answer_message-answer-requires g c = (c.requires, (rw c.in-Ok-Message.field-0-is at c.in-Ok-Message.ensures).1)
+answer_message-answer-requires g c = (rw c.in-Ok-Message.field-0-is at c.in-Ok-Message.ensures).1
 
 pub returns-in-Ok-Message-clause-owing : goal.returns-in-Ok-Message-clause-owing
 returns-in-Ok-Message-clause-owing g c =
@@ -115,23 +115,11 @@ returns-in-Ok-Message-clause-owing g c =
       takes_next c.args.context.now.site.now c.args.intake.now c.next.new.self c.args.context.now.moment
           (outside (g.O.Outlet.taken c.args.out.now) (g.O.Outlet.failures c.args.out.now) (g.A.Archive.condition c.args.store.now))
           (outside (with_more (g.O.Outlet.taken c.answer_message-answer.new.out) y.0) (g.O.Outlet.failures c.answer_message-answer.new.out) (g.A.Archive.condition c.answer_message-answer.new.store))
-          (Request c.in-Ok-Message.message) h.0 c.answer_message-answer.result c.in-Ok-Message.is_last
+          (Request c.in-Ok-Message.message) h.0 c.answer_message-answer.result.0 c.in-Ok-Message.is_last
           (λ e. request_shuts _ _ _ c.in-Ok-Message.message (sym h.1 ∙ e) h.0.first)
           (λ e. request_goes_on _ _ _ c.in-Ok-Message.message (sym h.1 ∙ e) h.0.first) y.3
           c.next_after-in-Ok-Message.new.intake c.next_after-in-Ok-Message.ensures.read c.next_after-in-Ok-Message.result c.next_after-in-Ok-Message.ensures.next,
     )
-
-pub returns-in-Err-clause-begins : goal.returns-in-Err-clause-begins
-returns-in-Err-clause-begins g c = unbegun _ _ c.requires
-
-pub returns-in-Ok-NeedMore-clause-begins : goal.returns-in-Ok-NeedMore-clause-begins
-returns-in-Ok-NeedMore-clause-begins g c = unbegun _ _ c.requires
-
-pub returns-in-Ok-Dead-clause-begins : goal.returns-in-Ok-Dead-clause-begins
-returns-in-Ok-Dead-clause-begins g c = unbegun _ _ c.requires
-
-pub returns-in-Ok-Continue100-clause-begins : goal.returns-in-Ok-Continue100-clause-begins
-returns-in-Ok-Continue100-clause-begins g c = unbegun _ _ c.requires
 
 pub returns-in-Ok-Refused-clause-begins : goal.returns-in-Ok-Refused-clause-begins
 returns-in-Ok-Refused-clause-begins g c =
@@ -140,7 +128,7 @@ returns-in-Ok-Refused-clause-begins g c =
     let old = g.A.Archive.condition c.args.store.now in
     let new = g.A.Archive.condition c.answer_fault-answer.new.store in
     begins_as (BeginsSource config (Fault c.in-Ok-Refused.refusal c.in-Ok-Refused.is_head_only) c.args.context.now.moment old new)
-    (BeginsFirst config c.args.intake.now c.args.context.now.moment old new) (g.C.Contents.rest c.answer_fault-answer.new.contents)
+    (BeginsFirst config c.args.intake.now c.args.context.now.moment old new) c.answer_fault-answer.result.1
     (λ r source. (Fault c.in-Ok-Refused.refusal c.in-Ok-Refused.is_head_only, c.next.new.self.place, h.first, source)) c.answer_fault-answer.ensures.begins
 
 pub returns-in-Ok-Message-clause-begins : goal.returns-in-Ok-Message-clause-begins
@@ -150,5 +138,5 @@ returns-in-Ok-Message-clause-begins g c =
     let old = g.A.Archive.condition c.args.store.now in
     let new = g.A.Archive.condition c.answer_message-answer.new.store in
     begins_as (BeginsSource config (Request c.in-Ok-Message.message) c.args.context.now.moment old new)
-    (BeginsFirst config c.args.intake.now c.args.context.now.moment old new) (g.C.Contents.rest c.answer_message-answer.new.contents)
+    (BeginsFirst config c.args.intake.now c.args.context.now.moment old new) c.answer_message-answer.result.1
     (λ r source. (Request c.in-Ok-Message.message, c.next.new.self.place, h.0.first, source)) c.answer_message-answer.ensures.begins

@@ -4,10 +4,9 @@ use Rattle.dep_message.specs.Stream.{Fault}
 use Rattle.dep_exchange.specs.Machine.{step}
 use Rattle.dep_exchange.specs.Sending.{outside}
 use Rattle.dep_exchange.proofs.Leaving.{stays_as, leaves_wider}
-use Rattle.dep_exchange.proofs.OwingLemmas.{none_later}
 use Rattle.dep_exchange.proofs.ServingLemmas.{answers_fixed, answers_from, made_from}
 use Rattle.dep_exchange.specs.Serving.{BeginsSource}
-use Rattle.dep_exchange.proofs.BeginLemmas.{begins_as, ready_source, unbegun}
+use Rattle.dep_exchange.proofs.BeginLemmas.{begins_as, ready_source}
 use Rattle.dep_exchange.proofs.step.answer_fault.Goals as goal
 
 pub returns-in-Ok-refuse-clause-owing : goal.returns-in-Ok-refuse-clause-owing
@@ -29,8 +28,8 @@ returns-in-Ok-refuse-clause-owing g c =
         steps = λ disk s represents.
             let t = (rw (c.config.ensures ∙ c.service.ensures) at c.in-Ok.ensures.does).ok (x.passes.honest disk) s represents tt in
             let now = tick config s c.args.context.now.moment in
-            made_from config s (Fault c.args.fault.refusal c.args.fault.is_head_only) c.args.context.now.moment x.sent _ _ _ c.send_performed-answered.result refl
-            (answers_from config s (Fault c.args.fault.refusal c.args.fault.is_head_only) c.args.context.now.moment x.sent _ _ c.send_performed-answered.result
+            made_from config s (Fault c.args.fault.refusal c.args.fault.is_head_only) c.args.context.now.moment x.sent _ _ _ c.send_performed-answered.result.0 refl
+            (answers_from config s (Fault c.args.fault.refusal c.args.fault.is_head_only) c.args.context.now.moment x.sent _ _ c.send_performed-answered.result.0
             (x.sends disk (step config s (Fault c.args.fault.refusal c.args.fault.is_head_only) c.args.context.now.moment)
             (record { state = t.1; ready = c.in-Ok-refuse.ensures now t.0 })));
         shut = λ disk none. absurd (none (c.in-Ok.ensures.shut.opened (x.passes.honest disk)));
@@ -43,7 +42,7 @@ returns-in-Err-refuse-clause-owing g c =
     let config = c.args.context.now.site.now in
     let new = g.A.Archive.condition c.tick.new.self in (
       None,
-      none_later (g.A.Archive.condition c.tick.new.self) _ c.requires,
+      refl,
       (c.send_fault.ensures.0, c.send_fault.ensures.1),
       answers_fixed config (outside (g.O.Outlet.taken c.args.out.now) (g.O.Outlet.failures c.args.out.now) (g.A.Archive.condition c.args.store.now)) (outside (g.O.Outlet.taken c.send_fault.new.out) (g.O.Outlet.failures c.send_fault.new.out) (g.A.Archive.condition c.tick.new.self)) (Fault c.args.fault.refusal c.args.fault.is_head_only) c.args.context.now.moment c.in-Err-refuse.store_fault
           c.tick.ensures.does.honest c.tick.ensures.does.was_open
@@ -64,7 +63,7 @@ unfolding step
 returns-in-Err-clause-owing g c =
     let new = g.A.Archive.condition c.tick.new.self in (
       None,
-      none_later (g.A.Archive.condition c.tick.new.self) _ c.requires,
+      refl,
       (c.send_fault-in-Err.ensures.0, c.send_fault-in-Err.ensures.1),
       answers_fixed c.args.context.now.site.now (outside (g.O.Outlet.taken c.args.out.now) (g.O.Outlet.failures c.args.out.now) (g.A.Archive.condition c.args.store.now)) (outside (g.O.Outlet.taken c.send_fault-in-Err.new.out) (g.O.Outlet.failures c.send_fault-in-Err.new.out) (g.A.Archive.condition c.tick.new.self)) (Fault c.args.fault.refusal c.args.fault.is_head_only) c.args.context.now.moment c.in-Err.store_fault
           c.tick.ensures.does.honest c.tick.ensures.does.was_open
@@ -86,14 +85,8 @@ returns-in-Ok-refuse-clause-begins g c =
     let x = c.send_performed-answered.ensures.owing.3 in
     begins_as (λ r. c.in-Ok-refuse.performed.stored ≡ Some r.file)
     (BeginsSource config (Fault c.args.fault.refusal c.args.fault.is_head_only) moment (g.A.Archive.condition c.args.store.now) (g.A.Archive.condition c.send_performed-answered.new.store))
-    (g.C.Contents.rest c.send_performed-answered.new.contents)
+    c.send_performed-answered.result.1
     (λ r is disk s represents.
     let t = (rw (c.config.ensures ∙ c.service.ensures) at c.in-Ok.ensures.does).ok (x.passes.honest disk) s represents tt in
     ready_source (step config s (Fault c.args.fault.refusal c.args.fault.is_head_only) moment) _ r.file (c.in-Ok-refuse.ensures (tick config s moment) t.0) is)
     c.send_performed-answered.ensures.begins
-
-pub returns-in-Err-refuse-clause-begins : goal.returns-in-Err-refuse-clause-begins
-returns-in-Err-refuse-clause-begins g c = unbegun _ _ c.requires
-
-pub returns-in-Err-clause-begins : goal.returns-in-Err-clause-begins
-returns-in-Err-clause-begins g c = unbegun _ _ c.requires

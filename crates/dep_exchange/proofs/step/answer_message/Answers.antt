@@ -5,10 +5,9 @@ use Rattle.dep_message.specs.declared.message.Message.{Message}
 use Rattle.dep_exchange.specs.Machine.{step}
 use Rattle.dep_exchange.specs.Sending.{outside}
 use Rattle.dep_exchange.proofs.Leaving.{leaves_wider}
-use Rattle.dep_exchange.proofs.OwingLemmas.{none_later}
 use Rattle.dep_exchange.proofs.ServingLemmas.{answers_fixed, answers_from, made_from}
 use Rattle.dep_exchange.specs.Serving.{BeginsSource}
-use Rattle.dep_exchange.proofs.BeginLemmas.{begins_as, ready_source, unbegun}
+use Rattle.dep_exchange.proofs.BeginLemmas.{begins_as, ready_source}
 use Rattle.dep_exchange.proofs.step.answer_message.Goals as goal
 
 pub returns-in-Ok-answer_routed-clause-owing : goal.returns-in-Ok-answer_routed-clause-owing
@@ -32,8 +31,8 @@ returns-in-Ok-answer_routed-clause-owing g c =
             let between = x.passes.honest disk in
             let t = (rw (c.config.ensures ∙ c.service.ensures) at c.in-Ok.ensures.does).ok (c.answer_routed.ensures.honest between) s represents tt in
             let p = c.in-Ok-answer_routed.ensures.ok between (tick config s c.args.context.now.moment) t.1 tt in
-            made_from config s (Request m) c.args.context.now.moment x.sent _ _ _ c.send_performed-answered.result refl
-            (answers_from config s (Request m) c.args.context.now.moment x.sent _ _ c.send_performed-answered.result (x.sends disk (step config s (Request m) c.args.context.now.moment) (record { state = p.1; ready = p.0 t.0 })));
+            made_from config s (Request m) c.args.context.now.moment x.sent _ _ _ c.send_performed-answered.result.0 refl
+            (answers_from config s (Request m) c.args.context.now.moment x.sent _ _ c.send_performed-answered.result.0 (x.sends disk (step config s (Request m) c.args.context.now.moment) (record { state = p.1; ready = p.0 t.0 })));
         shut = λ disk none. absurd (none (c.in-Ok.ensures.shut.opened (c.answer_routed.ensures.honest (x.passes.honest disk))));
       },
     )
@@ -45,7 +44,7 @@ returns-in-Err-answer_routed-clause-owing g c =
     let m : Message = c.args.item.message in
     let new = g.A.Archive.condition c.answer_routed.new.store in (
       None,
-      none_later (g.A.Archive.condition c.answer_routed.new.store) _ c.requires.0,
+      refl,
       (c.send_fault.ensures.0, c.send_fault.ensures.1),
       answers_fixed config (outside (g.O.Outlet.taken c.args.out.now) (g.O.Outlet.failures c.args.out.now) (g.A.Archive.condition c.args.store.now)) (outside (g.O.Outlet.taken c.send_fault.new.out) (g.O.Outlet.failures c.send_fault.new.out) (g.A.Archive.condition c.answer_routed.new.store)) (Request m) c.args.context.now.moment c.in-Err-answer_routed.fault
           (λ h. c.tick.ensures.does.honest (c.answer_routed.ensures.honest h)) (λ h. c.tick.ensures.does.was_open (c.answer_routed.ensures.was_open h))
@@ -65,7 +64,7 @@ unfolding step
 returns-in-Err-clause-owing g c =
     let new = g.A.Archive.condition c.tick.new.self in (
       None,
-      none_later (g.A.Archive.condition c.tick.new.self) _ c.requires.0,
+      refl,
       (c.send_fault-in-Err.ensures.0, c.send_fault-in-Err.ensures.1),
       answers_fixed c.args.context.now.site.now (outside (g.O.Outlet.taken c.args.out.now) (g.O.Outlet.failures c.args.out.now) (g.A.Archive.condition c.args.store.now)) (outside (g.O.Outlet.taken c.send_fault-in-Err.new.out) (g.O.Outlet.failures c.send_fault-in-Err.new.out) (g.A.Archive.condition c.tick.new.self)) (Request c.args.item.message) c.args.context.now.moment c.in-Err.fault
           c.tick.ensures.does.honest c.tick.ensures.does.was_open
@@ -88,16 +87,10 @@ returns-in-Ok-answer_routed-clause-begins g c =
     let x = c.send_performed-answered.ensures.owing.3 in
     begins_as (λ r. c.in-Ok-answer_routed.performed.stored ≡ Some r.file)
     (BeginsSource config (Request m) moment (g.A.Archive.condition c.args.store.now) (g.A.Archive.condition c.send_performed-answered.new.store))
-    (g.C.Contents.rest c.send_performed-answered.new.contents)
+    c.send_performed-answered.result.1
     (λ r is disk s represents.
     let between = x.passes.honest disk in
     let t = (rw (c.config.ensures ∙ c.service.ensures) at c.in-Ok.ensures.does).ok (c.answer_routed.ensures.honest between) s represents tt in
     let p = c.in-Ok-answer_routed.ensures.ok between (tick config s moment) t.1 tt in
     ready_source (step config s (Request m) moment) _ r.file (p.0 t.0) is)
     c.send_performed-answered.ensures.begins
-
-pub returns-in-Err-answer_routed-clause-begins : goal.returns-in-Err-answer_routed-clause-begins
-returns-in-Err-answer_routed-clause-begins g c = unbegun _ _ c.requires.0
-
-pub returns-in-Err-clause-begins : goal.returns-in-Err-clause-begins
-returns-in-Err-clause-begins g c = unbegun _ _ c.requires.0

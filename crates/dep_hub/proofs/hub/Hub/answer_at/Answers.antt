@@ -27,7 +27,7 @@ still_waiting-self-requires g c before =
     let kept = c.index_mut-kept.result.now in
     ap is_any_waiting c.as_slice-2.ensures.value
     ∙ any_unset is_waiting c.args.i c.args.self.now.connections.items (record { number = kept.number; intake = c.take_next-next.new.intake; behind = c.behind_of-behind.result })
-    (ap is_waiting c.behind_of-behind.ensures ∙ not_waiting c.take_next-next.new.contents.rest) (sym c.args.self.now.awaiting ∙ before)
+    (ap is_waiting c.behind_of-behind.ensures ∙ not_waiting c.take_next-next.result.1) (sym c.args.self.now.awaiting ∙ before)
 
 pub invariant_of-self : goal.invariant_of-self
 invariant_of-self g c = record {
@@ -42,7 +42,7 @@ returns-clause-goes g c =
     let y = c.take_next-next.ensures.owing in
     let old = outside (g.O.Outlet.taken c.args.out.now) (g.O.Outlet.failures c.args.out.now) (g.A.Archive.condition c.args.self.now.store) in
     let new = outside (with_more (g.O.Outlet.taken c.take_next-next.new.out) y.0) (g.O.Outlet.failures c.take_next-next.new.out) (g.A.Archive.condition c.take_next-next.new.store) in
-    let passes = (next_passes c.args.self.now.config c.index_mut-kept.result.now.intake c.args.moment old new c.take_next-next.new.intake.place c.take_next-next.result y.3.answers).1 in
+    let passes = (next_passes c.args.self.now.config c.index_mut-kept.result.now.intake c.args.moment old new c.take_next-next.new.intake.place c.take_next-next.result.0 y.3.answers).1 in
     record { config = refl; next = refl; clean = passes.clean; honest = passes.honest }
 
 pub returns-clause-there : goal.returns-clause-there
@@ -51,7 +51,7 @@ returns-clause-there g c =
     let y = c.take_next-next.ensures.owing in
     let old = outside (g.O.Outlet.taken c.args.out.now) (g.O.Outlet.failures c.args.out.now) (g.A.Archive.condition c.args.self.now.store) in
     let new = outside (with_more (g.O.Outlet.taken c.take_next-next.new.out) y.0) (g.O.Outlet.failures c.take_next-next.new.out) (g.A.Archive.condition c.take_next-next.new.store) in (
-      (next_there c.args.self.now.config c.index_mut-kept.result.now.intake c.args.moment old new c.take_next-next.new.intake.place c.take_next-next.result y.3.answers),
+      (next_there c.args.self.now.config c.index_mut-kept.result.now.intake c.args.moment old new c.take_next-next.new.intake.place c.take_next-next.result.0 y.3.answers),
       stays_there c.args.connection c.args.i c.args.self.now.connections.items c.index_mut-kept.result.now index c.index_mut-kept.ensures.value c.take_next-next.new.intake c.behind_of-behind.result,
     )
 
@@ -75,20 +75,20 @@ returns-clause-replies g c =
       answers = comes_next g.A.Archive.condition c.args.self.now _ n c.args.i kept c.take_next-next.new.intake b
           index c.index_mut-kept.ensures.value refl refl (g.met.A.Archive.settled c.take_next-next.new.store)
           (g.O.Outlet.taken c.args.out.now) (with_more (g.O.Outlet.taken c.take_next-next.new.out) y.0) (g.O.Outlet.failures c.args.out.now) (g.O.Outlet.failures c.take_next-next.new.out)
-          c.args.moment y.3.keeps.limit y.3.keeps.dead c.take_next-next.result y.3.answers;
+          c.args.moment y.3.keeps.limit y.3.keeps.dead c.take_next-next.result.0 y.3.answers;
       owes = λ honest s represents.
           owed_at s n items _ b behinds (bytes_later y.0)
           (subst (λ (later : Behind). IsOwed s later (bytes_later y.0)) (sym c.behind_of-behind.ensures)
-          (owed_later store c.take_next-next.new.contents.rest y.0 y.1 honest s represents));
+          (owed_later store c.take_next-next.result.1 y.0 y.1 honest s represents));
       paid = free.0.0;
       prepared = free.0.1;
-      let_go = ap is_looked_at here ∙ not_looked c.take_next-next.new.contents.rest;
+      let_go = ap is_looked_at here ∙ not_looked c.take_next-next.result.1;
       others = others_are n items _ b behinds;
       unawaited = λ honest w held at.
           subst (λ (x : Behind). is_awaited_by (set items c.args.i (record { number = kept.number; intake = c.take_next-next.new.intake; behind = b })) x ≡ false) (sym here)
           (begins_unawaited c.args.self.now.config items kept.intake c.args.moment (g.A.Archive.condition c.args.self.now.store) store w.state honest at.state free.1
           c.args.i kept (record { number = kept.number; intake = c.take_next-next.new.intake; behind = b }) c.index_mut-kept.ensures.value
-          c.take_next-next.new.contents.rest c.behind_of-behind.ensures c.take_next-next.ensures.begins);
+          c.take_next-next.result.1 c.behind_of-behind.ensures c.take_next-next.ensures.begins);
     }
 
 pub returns-clause-unbroken : goal.returns-clause-unbroken
@@ -100,4 +100,4 @@ returns-clause-unbroken g c broken =
     let b = c.behind_of-behind.result in
     let behinds = behinds_are n c.args.i items kept b index c.index_mut-kept.ensures.value c.take_next-next.new.intake _ refl in
     let here = behinds n ∙ (ap (λ (t : Bool). if t then b else behind_at items n) (eq-eqb n n refl) ∙ c.behind_of-behind.ensures) in
-    not_broken c.take_next-next.new.contents.rest (sym here ∙ broken)
+    not_broken c.take_next-next.result.1 (sym here ∙ broken)
