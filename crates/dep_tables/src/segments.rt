@@ -17,7 +17,7 @@ use sqlite::{Error, Row};
 use std::alloc::Global;
 
 /// A segment that was received, less its bytes.
-#[derive(Clone, Copy, Debug, PartialEq, Eq)]
+#[derive(Clone, Copy, PartialEq, Eq)]
 pub struct SegmentRow {
     /// The number of the upload.
     pub upload: u64,
