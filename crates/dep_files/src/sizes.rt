@@ -15,7 +15,7 @@ use dep_types::StoreFault;
 use sqlite::{Alter, Connection, Error, Row};
 
 /// What has to be known of a file before its content is sent.
-#[derive(Clone, Copy, PartialEq, Eq)]
+#[derive(Clone, Copy)]
 pub(crate) struct FileSize {
     /// The number of the object that it belongs to.
     pub(crate) object: u64,

@@ -57,7 +57,7 @@ pub enum NextAction {
 
 /// How far a connection is, whether its socket is ready, since when it is silent, and how many bytes
 /// moved in a time.
-#[derive(Clone, Copy, PartialEq, Eq)]
+#[derive(Clone, Copy)]
 pub struct ConnectionState {
     pub phase: Phase,
     /// Whether the socket may have something to read.

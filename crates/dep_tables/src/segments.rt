@@ -17,7 +17,7 @@ use sqlite::{Error, Row};
 use std::alloc::Global;
 
 /// A segment that was received, less its bytes.
-#[derive(Clone, Copy, PartialEq, Eq)]
+#[derive(Clone, Copy)]
 pub struct SegmentRow {
     /// The number of the upload.
     pub upload: u64,

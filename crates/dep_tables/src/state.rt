@@ -15,7 +15,7 @@ use sqlite::types::ValueRef;
 use sqlite::{Error, Row};
 
 /// The clock, a moment in seconds of Unix time, and the numbers to be given next.
-#[derive(Clone, Copy, PartialEq, Eq)]
+#[derive(Clone, Copy)]
 pub struct StateRow {
     /// The greatest moment so far, in seconds of Unix time.
     pub clock: u64,

@@ -17,7 +17,7 @@ use sqlite::types::ValueRef;
 use sqlite::{Error, Row};
 
 /// An upload as its row has it: a SHA-512 that was promised of it has a table of its own.
-#[derive(Clone, Copy, PartialEq, Eq)]
+#[derive(Clone, Copy)]
 pub struct UploadColumns {
     /// The upload's number.
     pub upload: u64,
@@ -50,7 +50,7 @@ impl UploadColumns {
 }
 
 /// An upload, and when it was last written to.
-#[derive(Clone, Copy, PartialEq, Eq)]
+#[derive(Clone, Copy)]
 pub struct LeftUpload {
     /// Its number.
     pub upload: u64,
