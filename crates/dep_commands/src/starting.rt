@@ -23,7 +23,7 @@ use std::error::Error;
 use std::fmt;
 
 /// Why no hub was made over a database.
-#[derive(Clone, Copy, Debug, PartialEq, Eq)]
+#[derive(Clone, Copy, Debug)]
 pub enum StartFault {
     /// The database was not opened as a store.
     Open(OpenFault),

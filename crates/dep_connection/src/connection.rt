@@ -12,7 +12,7 @@ use dep_types::{Inlet, ReadFailed};
 use std::alloc::Global;
 
 /// Why a connection was served no longer.
-#[derive(Clone, Copy, Debug, PartialEq, Eq)]
+#[derive(Clone, Copy)]
 pub enum Served {
     /// The last read gave nothing.
     Ended,

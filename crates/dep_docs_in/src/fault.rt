@@ -11,7 +11,7 @@ use std::fmt;
 use url::ParseError;
 
 /// Why a document is refused.
-#[derive(Clone, Copy, Debug, PartialEq, Eq)]
+#[derive(Clone, Copy, Debug)]
 pub enum DocFault {
     /// The content is no such document.
     Malformed,

@@ -16,7 +16,7 @@ pub trait AccessLog {
 }
 
 /// A log that keeps nothing.
-#[derive(Clone, Copy, Debug)]
+#[derive(Clone, Copy)]
 pub struct NoLog;
 
 impl AccessLog for NoLog {

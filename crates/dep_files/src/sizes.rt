@@ -16,7 +16,7 @@ use dep_types::StoreFault;
 use sqlite::{Alter, Connection, Row};
 
 /// What has to be known of a file before its content is sent.
-#[derive(Clone, Copy, Debug, PartialEq, Eq)]
+#[derive(Clone, Copy)]
 pub(crate) struct FileSize {
     /// The number of the object that it belongs to.
     pub(crate) object: u64,

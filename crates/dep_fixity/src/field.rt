@@ -13,7 +13,7 @@ use std::error::Error;
 use std::fmt;
 
 /// The digests that a request promises of its content, an algorithm each, where it promises one.
-#[derive(Clone, Copy, Debug)]
+#[derive(Clone, Copy)]
 pub struct DigestList {
     /// The SHA-256.
     pub sha256: Option<[u8; 32]>,

@@ -2,7 +2,7 @@
 use sha2::{Digest, Sha256, Sha512};
 
 /// The digests of one message, an algorithm each.
-#[derive(Clone, Copy, Debug)]
+#[derive(Clone, Copy)]
 pub struct Digests {
     /// Its SHA-256 (FIPS 180-4).
     pub sha256: [u8; 32],

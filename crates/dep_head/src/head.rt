@@ -18,7 +18,7 @@ use std::marker::Model;
 use std::{fmt, mem};
 
 /// Why no head was read.
-#[derive(Clone, Copy, Debug, PartialEq, Eq)]
+#[derive(Clone, Copy, Debug)]
 pub enum HeadFault {
     /// The text is no head of a request.
     NotAHead,

@@ -1,7 +1,7 @@
 //! When a host is shut, and why.
 
 /// Why a host is shut.
-#[derive(Clone, Copy, Debug, PartialEq, Eq)]
+#[derive(Clone, Copy)]
 pub enum Cause {
     /// It was told that a fault has shut its store.
     Store,
@@ -11,7 +11,7 @@ pub enum Cause {
 
 /// That a host is shut: it lets nobody in and reads nothing. What it read it answers still, and closes each
 /// connection once its replies are out.
-#[derive(Clone, Copy, Debug, PartialEq, Eq)]
+#[derive(Clone, Copy)]
 pub struct Shut {
     /// The second at which it was told so.
     pub second: u64,

@@ -17,7 +17,7 @@ use dep_outbox::{Sink, Source, Spool};
 use dep_slot::{Client, HostLog, ReadBuffer};
 
 /// Why no more is served.
-#[derive(Clone, Copy, Debug, PartialEq, Eq)]
+#[derive(Clone, Copy)]
 pub enum Ended {
     /// No more comes.
     Events,

@@ -6,7 +6,7 @@ use std::error::Error;
 use std::fmt;
 
 /// Why a hub is refused.
-#[derive(Clone, Copy, Debug, PartialEq, Eq)]
+#[derive(Clone, Copy, Debug)]
 pub enum HubFault {
     /// The configuration breaks a rule of its check.
     Config,
@@ -15,7 +15,7 @@ pub enum HubFault {
 }
 
 /// Why a connection is refused.
-#[derive(Clone, Copy, Debug, PartialEq, Eq)]
+#[derive(Clone, Copy, Debug)]
 pub enum ConnectFault {
     /// There are as many connections as there may be, or their numbers have ended.
     Full,

@@ -1,7 +1,7 @@
 //! What came of a content that is sent in steps.
 
 /// What came of the content behind a reply, once a few blocks more were sent.
-#[derive(Clone, Copy, Debug, PartialEq, Eq)]
+#[derive(Clone, Copy, PartialEq, Eq)]
 pub enum SentOn {
     /// More is left.
     Part,

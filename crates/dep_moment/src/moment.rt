@@ -14,7 +14,7 @@ const SECONDS_IN_DAY: u64 = 86_400;
 
 /// A moment in whole seconds since 1 January 1970, without leap seconds. The greatest is the last second of the
 /// year 9999.
-#[derive(Clone, Copy, Debug, PartialEq, Eq, PartialOrd, Ord)]
+#[derive(Clone, Copy, PartialEq, Eq, PartialOrd, Ord)]
 pub struct Moment {
     secs: u64,
 }

@@ -3,7 +3,7 @@ ghost use Rattle.std.specs.Prelude.{◌≡◌, ◌+◌, ◌*◌, ℕ};
 ghost use Rattle.dep_octets.specs.Octets.{decimal_number, positive_number, capped};
 
 /// What a text says as a decimal number.
-#[derive(Clone, Copy, Debug, PartialEq, Eq)]
+#[derive(Clone, Copy)]
 pub enum Number {
     /// The text is empty, or has a byte that is no ASCII digit.
     NotDigits,

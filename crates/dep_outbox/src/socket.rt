@@ -29,7 +29,7 @@ pub enum Delivered {
 
 /// How often a half of a socket gave or took no byte, by why, each up to 2^64 - 1. Clauses alone read it: who says
 /// that a socket is to be waited for, or is done with, has asked it.
-#[derive(Clone, Copy, Debug, PartialEq, Eq)]
+#[derive(Clone, Copy)]
 pub struct Halts {
     /// Nothing was there, or none was taken, at the time.
     pub later: u64,

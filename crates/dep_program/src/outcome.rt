@@ -6,7 +6,7 @@ ghost use Rattle.dep_program.specs.Outcomes.{status_of, line_of, outcome_of, out
 use dep_connection::Served;
 
 /// How a run of the program ended.
-#[derive(Clone, Copy, Debug)]
+#[derive(Clone, Copy)]
 pub enum Outcome {
     /// What was asked for was done.
     Done,

@@ -24,7 +24,7 @@ use sqlite_resolve::CompileError;
 use std::fmt;
 
 /// Why a database was not opened.
-#[derive(Clone, Copy, Debug, PartialEq, Eq)]
+#[derive(Clone, Copy, Debug)]
 pub enum OpenFault {
     /// The table `format` is there, and does not have the one row of a known version.
     UnknownVersion,

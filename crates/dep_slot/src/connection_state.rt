@@ -8,7 +8,7 @@ use crate::log::Closing;
 use dep_hub::{Arrived, Next, SentOn};
 
 /// How far a connection is.
-#[derive(Clone, Copy, Debug, PartialEq, Eq)]
+#[derive(Clone, Copy, PartialEq, Eq)]
 pub enum Phase {
     /// No request is complete of what was read, and more is read.
     Open,
@@ -37,7 +37,7 @@ impl Phase {
 }
 
 /// What a connection does next.
-#[derive(Clone, Copy, Debug, PartialEq, Eq)]
+#[derive(Clone, Copy, PartialEq, Eq)]
 pub enum NextAction {
     /// What is owed is sent, as far as the socket takes it.
     Flush,
@@ -57,7 +57,7 @@ pub enum NextAction {
 
 /// How far a connection is, whether its socket is ready, since when it is silent, and how many bytes
 /// moved in a time.
-#[derive(Clone, Copy, Debug, PartialEq, Eq)]
+#[derive(Clone, Copy)]
 pub struct ConnectionState {
     pub phase: Phase,
     /// Whether the socket may have something to read.

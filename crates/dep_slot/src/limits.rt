@@ -3,7 +3,7 @@ ghost use Rattle.std.specs.Prelude.{◌≡◌};
 ghost use Rattle.dep_slot.specs.ConnectionStates.{is_past};
 
 /// What bounds the connections of a host.
-#[derive(Clone, Copy, Debug, PartialEq, Eq)]
+#[derive(Clone, Copy)]
 pub struct Limits {
     /// For how many seconds a connection may be silent.
     pub idle_seconds: u64,

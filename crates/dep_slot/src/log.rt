@@ -6,7 +6,7 @@ use dep_hub::{AccessLog, ConnId, Next, SentOn};
 use std::net::IpAddr;
 
 /// Why a client was rejected.
-#[derive(Clone, Copy, Debug, PartialEq, Eq)]
+#[derive(Clone, Copy)]
 pub enum Rejection {
     /// As many connections as may be come from its address.
     Address,
@@ -21,7 +21,7 @@ pub enum Rejection {
 }
 
 /// Why a connection was closed.
-#[derive(Clone, Copy, Debug, PartialEq, Eq)]
+#[derive(Clone, Copy)]
 pub enum Closing {
     /// It was over: its client ended it after the last reply or before, or its socket or spool failed.
     Over,
@@ -34,7 +34,7 @@ pub enum Closing {
 }
 
 /// How many bytes were read and sent.
-#[derive(Clone, Copy, Debug, PartialEq, Eq)]
+#[derive(Clone, Copy)]
 pub struct Bytes {
     pub received: u64,
     pub sent: u64,

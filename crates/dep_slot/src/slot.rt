@@ -18,7 +18,7 @@ use dep_outbox::{Flushed, Received, Sink, Source, Spool, Wire};
 use std::net::IpAddr;
 
 /// When something happens.
-#[derive(Clone, Copy, Debug, PartialEq, Eq)]
+#[derive(Clone, Copy)]
 pub struct Time {
     /// The moment in replies.
     pub moment: Moment,

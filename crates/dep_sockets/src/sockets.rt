@@ -37,7 +37,7 @@ const MOST_TRIES: u32 = 64;
 type SocketClient<'a, R> = Client<SocketSource, SocketSink, FileSpool<'a, R>>;
 
 /// Why no more events come. It is displayed as one line.
-#[derive(Clone, Copy, Debug, PartialEq, Eq)]
+#[derive(Clone, Copy, Debug)]
 pub enum SocketFault {
     /// There was no memory.
     Memory,

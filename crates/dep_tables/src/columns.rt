@@ -8,7 +8,7 @@ use sqlite::Row;
 use sqlite::types::ValueRef;
 
 /// What a column holds.
-#[derive(Clone, Copy, Debug, PartialEq, Eq)]
+#[derive(Clone, Copy, PartialEq, Eq)]
 pub enum ColumnKind {
     /// A number from 0 on.
     Number,

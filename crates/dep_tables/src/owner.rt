@@ -8,7 +8,7 @@ use crate::numbers::{LIMIT, number};
 use sqlite::types::ValueRef;
 
 /// Whose a block or a SHA-512 is: a file's, or a staged upload's.
-#[derive(Clone, Copy, Debug, PartialEq, Eq)]
+#[derive(Clone, Copy)]
 pub enum BlockOwner {
     /// The file of this number.
     File(u64),
@@ -17,7 +17,7 @@ pub enum BlockOwner {
 }
 
 /// The place of a block among those of its owner.
-#[derive(Clone, Copy, Debug, PartialEq, Eq)]
+#[derive(Clone, Copy)]
 pub struct BlockPlace {
     /// The number of the segment, or 1 where the content came whole.
     pub part: u64,
@@ -29,7 +29,7 @@ pub struct BlockPlace {
 pub const RUN_LENGTH: u64 = 8;
 
 /// The key of a block: whose it is, and its place there.
-#[derive(Clone, Copy, Debug, PartialEq, Eq)]
+#[derive(Clone, Copy)]
 pub struct BlockKey {
     /// Whose block it is.
     pub owner: BlockOwner,

@@ -17,7 +17,7 @@ use sqlite::types::ValueRef;
 use std::alloc::{AllocError, Global};
 
 /// A segment that was received, less its bytes.
-#[derive(Clone, Copy, Debug, PartialEq, Eq)]
+#[derive(Clone, Copy)]
 pub struct SegmentRow {
     /// The number of the upload.
     pub upload: u64,

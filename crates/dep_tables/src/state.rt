@@ -16,7 +16,7 @@ use sqlite::types::ValueRef;
 use std::alloc::AllocError;
 
 /// The clock, a moment in seconds of Unix time, and the numbers to be given next.
-#[derive(Clone, Copy, Debug, PartialEq, Eq)]
+#[derive(Clone, Copy)]
 pub struct StateRow {
     /// The greatest moment so far, in seconds of Unix time.
     pub clock: u64,

@@ -18,7 +18,7 @@ use sqlite::types::ValueRef;
 use std::alloc::AllocError;
 
 /// An upload as its row has it: a SHA-512 that was promised of it has a table of its own.
-#[derive(Clone, Copy, Debug, PartialEq, Eq)]
+#[derive(Clone, Copy)]
 pub struct UploadColumns {
     /// The upload's number.
     pub upload: u64,
@@ -51,7 +51,7 @@ impl UploadColumns {
 }
 
 /// An upload, and when it was last written to.
-#[derive(Clone, Copy, Debug, PartialEq, Eq)]
+#[derive(Clone, Copy)]
 pub struct LeftUpload {
     /// Its number.
     pub upload: u64,

@@ -6,7 +6,7 @@ ghost use Rattle.dep_types.specs.Numbers.{greatest_number, has_room};
 pub const GREATEST_NUMBER: u64 = 4_000_000_000_000_000_000;
 
 /// The next number of each kind, or how many of each kind are taken. A number is never given twice.
-#[derive(Clone, Copy, Debug, PartialEq, Eq)]
+#[derive(Clone, Copy, PartialEq, Eq)]
 pub struct Counters {
     /// Of objects.
     pub object: u64,

@@ -22,7 +22,7 @@ impl fmt::Display for ReadFailed {
 impl Error for ReadFailed {}
 
 /// How the last read of an inlet ended.
-#[derive(Clone, Copy, Debug)]
+#[derive(Clone, Copy)]
 pub enum LastRead {
     /// No read was made.
     NoneYet,

@@ -4,7 +4,7 @@ ghost use Rattle.dep_types.specs.Refusals.{facts_of};
 
 /// Why a request is refused: each refusal has a number, a status of HTTP, a name and a text, which its error
 /// document shows (SWORD 3.0, error documents).
-#[derive(Clone, Copy, Debug)]
+#[derive(Clone, Copy)]
 pub enum Refusal {
     /// The request is malformed, or a field or a reference of it doesn't fit the operation.
     BadRequest,

@@ -5,7 +5,7 @@ use crate::metadata::Metadata;
 use crate::text::Text;
 
 /// An object, without its metadata and files.
-#[derive(Clone, Copy, Debug)]
+#[derive(Clone, Copy)]
 pub struct ObjectRow {
     /// The object's number.
     pub object: u64,
@@ -47,7 +47,7 @@ pub struct FileRow {
 }
 
 /// A staged upload, without its segments.
-#[derive(Clone, Copy, Debug)]
+#[derive(Clone, Copy)]
 pub struct UploadRow {
     /// The upload's number.
     pub upload: u64,

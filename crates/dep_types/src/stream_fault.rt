@@ -8,7 +8,7 @@ use std::error::Error;
 use std::fmt;
 
 /// Why a content was not sent, or not to its end.
-#[derive(Clone, Copy, Debug, PartialEq, Eq)]
+#[derive(Clone, Copy, Debug)]
 pub enum StreamFault {
     /// The outlet took no more.
     Writer,
