@@ -12,7 +12,7 @@ ghost use Rattle.dep_schema.specs.Transactions.{Transacts};
 use dep_answers::Service;
 use dep_decisions::Operation;
 use dep_requests::{Done, answer_operation, is_plain_read};
-use dep_schema::{Lent, check_open, commit};
+use dep_schema::{Lent, check_open, commit, give_back};
 use dep_staging::RunningHashes;
 use dep_types::StoreFault;
 use sqlite::{Alter, Connection, Transaction};
@@ -73,6 +73,6 @@ pub fn perform_request<S: Alter>(
     if performed.has_changes {
         return commit(tx).and(Ok(performed));
     }
-    tx.rollback();
+    give_back(tx);
     check_open(connection).and(Ok(performed))
 }

@@ -58,7 +58,7 @@ pub returns : goal.returns
 returns g c =
     let old = c.args.connection.now in
     let inside = c.answer_within.new.tx.conn.now in
-    let mid = c.rollback.new.self.0 in
+    let mid = c.give_back.new.tx.0 in
     let new = c.check_open.new.connection in
     let reported = c.in_ok-performed.ensures in
     let work = works_on g.S.Store old mid reported.stays c.transaction-tx.ensures.begun (λ is_open trees h. g.met.S.Store.settled old.store trees is_open h)
@@ -69,7 +69,7 @@ returns g c =
     subst (IsPerformed (state g.S.Store old) (state g.S.Store new) c.args.service.now c.args.operation.now runs) (sym c.and-2.ensures)
     (by_rollback g.S.Store old inside c.args.service.now c.args.operation.now runs c.in_ok-performed.performed
     (worked_on g.S.Store old inside c.args.service.now c.args.operation.now runs c.in_ok-performed.performed c.transaction-tx.ensures.begun did) mid last new same c.check_open.result work
-    c.rollback.ensures.undone c.rollback.ensures.survives (c.is_autocommit-between.ensures.settled (c.is_autocommit-between.ensures.value ∙ ap not c.requires.settled)) c.check_open.ensures c.if-performed.false) in
+    c.give_back.ensures.undone c.give_back.ensures.survives (c.is_autocommit-between.ensures.settled (c.is_autocommit-between.ensures.value ∙ ap not c.requires.settled)) c.check_open.ensures c.if-performed.false) in
     let it = ended c.args.running.now reported.does in
     let later = subst (λ (h : Held g.row.S.Denot). Survives (state g.S.Store h) (state g.S.Store new) (λ _. ⊥)) (sym same) c.check_open.ensures.restored.survives in
     record {
@@ -78,6 +78,6 @@ returns g c =
       changes = it.changes;
       running =
           keeps_running g.S.Store old inside new c.args.running.now c.answer_within.new.running _ c.transaction-tx.ensures.begun reported.running
-          (none_then (state g.S.Store inside) (state g.S.Store mid) (state g.S.Store new) c.rollback.ensures.survives later) (clean_if_open (g.S.Store.view new.store) (g.met.S.Store.shut_if_dirty new.store)) new refl;
+          (none_then (state g.S.Store inside) (state g.S.Store mid) (state g.S.Store new) c.give_back.ensures.survives later) (clean_if_open (g.S.Store.view new.store) (g.met.S.Store.shut_if_dirty new.store)) new refl;
       back = it.back;
     }
