@@ -8,7 +8,8 @@ use Rattle.std.specs.declared.io.ErrorKind.TheVariants.{OutOfMemory}
 use Rattle.dep_types.specs.State.{State, empty_state}
 use Rattle.dep_tables.specs.Tables.{Tables}
 use Rattle.dep_tables.specs.Versions.{our_version, older_version, HasVersion}
-use Rattle.dep_schema.specs.OpenTables.{Holds, HoldsOlder, HoldsNone, StaysFile, first_tables}
+use Rattle.dep_schema.specs.OpenTables.{Holds, HoldsOlder, HoldsNone, StaysFile}
+use Rattle.dep_migrations.specs.FirstTables.{first_tables}
 use Rattle.dep_schema.specs.States.{Represents, IsLeftAs, Leaves}
 use Rattle.dep_commands.specs.Audits.{Audits, IsBegun, object_rows}
 use Rattle.dep_schema.proofs.Transacting.{IsSettled, leaves_as_was}

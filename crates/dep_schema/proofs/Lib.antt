@@ -1,10 +1,5 @@
-mod Causes
 pub mod Asking
 pub mod Missing
-pub mod MadeTables
-pub mod MadeIndexes
-pub mod Placed
-pub mod BesideRows
 pub mod Version
 pub mod Refusing
 pub mod Again
@@ -12,4 +7,3 @@ pub mod Transactions
 pub mod Prepared
 pub mod Transacting
 pub mod Upgraded
-pub mod Performed

@@ -31,11 +31,12 @@ use Rattle.dep_tables.specs.Tables.{tables_of, IsOf, IsKnownSchema, IsKnown}
 use Rattle.dep_tables.specs.Versions.{IsKnownVersion, HasVersion}
 use Rattle.dep_tables.proofs.Results.{if_ok}
 use Rattle.dep_statements.proofs.Asked.{asks_on}
-use Rattle.dep_schema.specs.Beside.{LacksFormat}
+use Rattle.dep_migrations.specs.Beside.{LacksFormat}
 use Rattle.dep_schema.specs.OpenTables.{HasKnownVersion}
 use Rattle.dep_schema.specs.Texts.{find_format_text}
 use Rattle.dep_tables.specs.Faults.{fault_for}
-use Rattle.dep_schema.specs.OpenFaults.{open_fault_for, reported_by, ReportsError, ShowsVersion, ShowsNone, FailsToReport, FailsToFind, FailsToMake, FailsToFindOrMake, begun, GivesOut, RefusesKnown}
+use Rattle.dep_schema.specs.OpenFaults.{open_fault_for, reported_by, ReportsError, ShowsVersion, ShowsNone, FailsToReport, FailsToFind, FailsToFindOrMake, begun, GivesOut, RefusesKnown}
+use Rattle.dep_migrations.specs.Faults.{FailsToMake}
 use Rattle.dep_schema.specs.declared.lending.Lent.{Lent}
 use Rattle.dep_schema.specs.declared.opening.OpenFault.{OpenFault}
 use Rattle.dep_schema.specs.declared.opening.OpenFault.TheVariants.{UnknownVersion}

@@ -28,11 +28,12 @@ use Rattle.sqlite.specs.Tree.{Trees}
 use Rattle.sqlite.specs.Effect.{Database}
 use Rattle.sqlite.specs.Schema.{Schema}
 use Rattle.dep_statements.specs.Adding.{HasCounters}
-use Rattle.dep_schema.specs.Beside.{LacksFormat}
+use Rattle.dep_migrations.specs.Beside.{LacksFormat}
 use Rattle.dep_schema.proofs.Missing.{find_missing, find_plain}
 use Rattle.dep_tables.specs.Tables.{tables_of, IsKnownSchema, IsKnown}
 use Rattle.dep_tables.specs.Versions.{our_version, older_version, HasVersion}
-use Rattle.dep_schema.specs.OpenTables.{no_schema, HasKnownVersion, Sees, Holds, IsBeside, GainsOurs, IsOpenBeside, CommitsBySchema, first_tables}
+use Rattle.dep_migrations.specs.FirstTables.{no_schema, Sees, IsBeside, GainsOurs, first_tables}
+use Rattle.dep_schema.specs.OpenTables.{HasKnownVersion, Holds, IsOpenBeside, CommitsBySchema}
 use Rattle.dep_schema.specs.OpenFaults.{open_fault_for, AreVersion, AreKnownVersion, ShowsVersion, ReportsVersion}
 use Rattle.dep_types.specs.declared.store_fault.StoreFault.{StoreFault}
 use Rattle.dep_types.specs.declared.store_fault.StoreFault.TheVariants.{Store, Memory}

@@ -1,50 +1,22 @@
--- What the calls say that make the tables of a new store, or find those that there are.
+-- What the calls say that make the tables of a new store where there are none, and else find those that there are.
 use Rattle.std.specs.Prelude.{◌≡◌, ◌≢◌, ℕ, IsTrue, Result, Option, None, Some, IfOk, OnOk, MatchOption, MatchResult}
 use Rattle.sqlite.specs.Schema.{Schema}
-use Rattle.sqlite.specs.Effect.{Database}
 use Rattle.sqlite.specs.State.{State, HasCleanDisk}
 use Rattle.sqlite.specs.Held.{Held, state}
 use Rattle.sqlite_trees.specs.declared.store.Store.{Ghosts}
-use Rattle.sqlite_catalog.specs.Change.{created, next_tree}
-use Rattle.dep_statements.specs.Adding.{Puts}
-use Rattle.dep_tables.specs.Rows.{stored_format, stored_state}
-use Rattle.dep_tables.specs.Schema.{format_table}
 use Rattle.dep_tables.specs.Tables.{tables_of, IsKnown}
-use Rattle.dep_tables.specs.Versions.{our_version, HasVersion}
-use Rattle.dep_schema.specs.Beside.{LacksFormat, AreFree, with_ours}
-use Rattle.dep_schema.specs.OpenTables.{no_schema, first_tables, first_state, Sees, GainsOurs, HasKnownVersion}
+use Rattle.dep_tables.specs.Versions.{HasVersion}
+use Rattle.dep_migrations.specs.Beside.{LacksFormat}
+use Rattle.dep_migrations.specs.FirstTables.{GainsOurs}
+use Rattle.dep_schema.specs.OpenTables.{HasKnownVersion}
 use Rattle.dep_schema.specs.OpenFaults.{ShowsNone, ShowsVersion, FailsToFind, ShowsOrMakes, FailsToFindOrMake}
 use Rattle.dep_schema.specs.declared.opening.OpenFault.{OpenFault}
 use Rattle.dep_schema.specs.declared.opening.OpenFault.TheVariants as open_fault
 
--- the row of the version is put in beside the tables of others
-abbrev pub PutsFormat : Schema → Database → Database → Type 0
-PutsFormat others = Puts (next_tree others) (stored_format our_version)
-
--- the same of the row of the clock and the counters
-abbrev pub PutsState : Schema → Database → Database → Type 0
-PutsState others = Puts (next_tree (created others format_table)) (stored_state first_state)
-
--- both are, one after the other
-abbrev pub PutsFirstRows : Schema → Database → Database → Type 0
-PutsFirstRows others old new =
-    (next : Database) × PutsFormat others old next × PutsState others next new
-
-module _ {A E : Type 0} (old new : State) (result : Result A E) where
-  -- inside a transaction, with our tables beside those of others, an Ok does this
-  abbrev pub FillsOurs : (Schema → Database → Database → Type 0) → Type 0
-  FillsOurs does = HasCleanDisk new → IsTrue old.in_transaction → (others : Schema) → AreFree others
-      → old.now.schema ≡ with_ours others → OnOk result (does others old.now new.now)
-
-  -- there, with no table at all, an Ok makes those of a new store
-  abbrev pub MakesFirst : Type 0
-  MakesFirst = HasCleanDisk new → IsTrue old.in_transaction → old.now.schema ≡ no_schema
-      → OnOk result (Sees new first_tables)
-
-  -- there, with no `format`, an Ok makes them beside the tables of others
-  abbrev pub AddsFirst : Type 0
-  AddsFirst = HasCleanDisk new → IsTrue old.in_transaction → LacksFormat old.now.schema
-      → OnOk result (GainsOurs old.now new.now)
+-- inside a transaction, with no `format`, an Ok makes our tables beside those of others
+abbrev pub AddsFirst : {A E : Type 0} → (old new : State) → Result A E → Type 0
+AddsFirst old new result = HasCleanDisk new → IsTrue old.in_transaction → LacksFormat old.now.schema
+    → OnOk result (GainsOurs old.now new.now)
 
 module _ (old new : State) (result : Result (Option ℕ) OpenFault) where
   -- with such a schema no version is found

@@ -1,27 +1,25 @@
 -- Why a database is not opened: by what the query for its version shows, or by a statement that fails.
-use Rattle.std.specs.Prelude.{◌≡◌, ◌≢◌, ◌⊎◌, ◌<◌, ℕ, ℤ, pos, List, [], ◌∷◌, true, Option, None, Result, Ok, Err, IsSome, take, length, slice_index_or}
+use Rattle.std.specs.Prelude.{◌≡◌, ◌≢◌, ◌⊎◌, ℕ, ℤ, pos, List, [], ◌∷◌, true, Option, None, Result, Ok, Err, IsSome}
 use Rattle.sqlite.specs.Order.{Row, column}
 use Rattle.sqlite.specs.declared.types.Value.TheVariants.{Int}
 use Rattle.sqlite.specs.declared.error.Error.{Error}
 use Rattle.sqlite.specs.declared.error.Error.TheVariants.{SqlInputError}
-use Rattle.sqlite.specs.State.{State, Shown, FailsToQuery, IsTooLate, Fails, HasCause, ExecutesInside, store_error}
+use Rattle.sqlite.specs.State.{State, Shown, FailsToQuery, IsTooLate, Fails, HasCause, store_error}
 use Rattle.sqlite.specs.Held.{Held, state}
 use Rattle.sqlite_trees.specs.declared.store.Store.{Ghosts}
 use Rattle.sqlite_trees.specs.declared.error.StoreError.{StoreError}
 use Rattle.sqlite_resolve.specs.declared.error.CompileError.{CompileError}
 use Rattle.sqlite_resolve.specs.declared.error.CompileError.TheVariants.{NoSuchTable}
-use Rattle.dep_statements.specs.Adding.{AddsAll}
 use Rattle.dep_types.specs.declared.store_fault.StoreFault.{StoreFault}
 use Rattle.dep_types.specs.declared.store_fault.StoreFault.TheVariants as store
-use Rattle.dep_schema.specs.Causes.{FailsSince}
-use Rattle.dep_tables.specs.Clauses.{CommitsNothing, FailsToRun}
+use Rattle.dep_tables.specs.Clauses.{CommitsNothing}
 use Rattle.dep_tables.specs.Faults.{fault_for}
-use Rattle.dep_tables.specs.Schema.{our_tables}
 use Rattle.dep_tables.specs.Tables.{tables_of}
 use Rattle.dep_tables.specs.Versions.{our_version, IsKnownVersion}
-use Rattle.dep_schema.specs.Beside.{AreFree, AddsIndexes, LacksFormat}
+use Rattle.dep_migrations.specs.Beside.{AreFree, LacksFormat}
+use Rattle.dep_migrations.specs.Faults.{FailsToMake}
 use Rattle.dep_schema.specs.OpenTables.{HasKnownVersion}
-use Rattle.dep_schema.specs.Texts.{create_texts, index_files_text, index_uploads_text, find_format_text, add_format_text, add_state_text}
+use Rattle.dep_schema.specs.Texts.{find_format_text}
 use Rattle.dep_schema.specs.declared.opening.OpenFault.{OpenFault}
 use Rattle.dep_schema.specs.declared.opening.OpenFault.TheVariants as open_fault
 
@@ -101,42 +99,6 @@ module _ (old new : State) where
 -- the query for the version would show this one
 abbrev pub ReportsVersion : State → ℕ → Type 0
 ReportsVersion s = ShowsVersion s s
-
-module _ {T : Type 0} (state : T → State) (old new : T) where
-  -- one of the texts that make the tables failed, once those before it had made theirs
-  abbrev pub FailsToCreate : StoreFault → Type 0
-  FailsToCreate = FailsSince state (λ at now fault. (made : ℕ) × (made < length create_texts)
-      × AddsAll (take made our_tables) (state old).now at.now
-      × FailsToRun (slice_index_or create_texts made []) [] at now fault) old new
-
-  -- the first statement failed, or behind it the second
-  abbrev pub FailsAtEither : (first second : List ℕ) → StoreFault → Type 0
-  FailsAtEither first second fault =
-      FailsToRun first [] (state old) (state new) fault
-      ⊎ FailsSince state (λ at now fault.
-      ((count : ℕ) × ExecutesInside 0 first [] (state old) at (Ok count))
-      × FailsToRun second [] at now fault) old new fault
-
-  -- the index of the files could not be made, or behind it that of the uploads
-  abbrev pub FailsToIndex : StoreFault → Type 0
-  FailsToIndex = FailsAtEither index_files_text index_uploads_text
-
-  -- the row of the version could not be added, or behind it that of the state
-  abbrev pub FailsToAddRows : StoreFault → Type 0
-  FailsToAddRows = FailsAtEither add_format_text add_state_text
-
-module _ {T : Type 0} (state : T → State) (old new : T) where
-  -- why no tables are made: a statement failed, as where a name is taken; those that add the rows are run only where
-  -- the names were free
-  abbrev pub FailsToMake : StoreFault → Type 0
-  FailsToMake fault =
-      FailsToCreate state old new fault
-      ⊎ ((made : T) × AddsAll our_tables (state old).now (state made).now
-      × CommitsNothing (state old) (state made)
-      × (FailsToIndex state made new fault
-      ⊎ (AreFree (state old).now.schema × (found : T)
-      × AddsIndexes (state made).now (state found).now
-      × CommitsNothing (state made) (state found) × FailsToAddRows state found new fault)))
 
 -- ---- over a connection, from the beginning of the transaction on
 

@@ -1,26 +1,21 @@
 -- What an open, a transaction and a crash leave of the tables.
-use Rattle.std.specs.Prelude.{◌≡◌, ◌⊎◌, ℕ, true, false, IsTrue, List, Result, Ok, OnOk, IfErr, [], ◌∷◌}
+use Rattle.std.specs.Prelude.{◌≡◌, ◌⊎◌, ℕ, true, false, IsTrue, Result}
 use Rattle.std.specs.Borrow.{MutBor}
 use Rattle.sqlite.specs.Schema.{Schema}
 use Rattle.sqlite.specs.Tree.{Trees}
-use Rattle.sqlite.specs.Effect.{Database}
-use Rattle.sqlite.specs.State.{State, HasCleanDisk, ExecutesInside, Survives, Commits, IsRolledBack}
+use Rattle.sqlite.specs.State.{State, HasCleanDisk, Survives, Commits, IsRolledBack}
 use Rattle.sqlite.specs.Held.{Held, state}
 use Rattle.sqlite.specs.Steps.{FailsToCommit}
 use Rattle.sqlite.specs.declared.error.Error.{Error}
 use Rattle.sqlite_trees.specs.declared.store.Store.{Ghosts}
 use Rattle.sqlite_catalog.specs.Listing.{IsSound}
-use Rattle.sqlite_catalog.specs.Change.{next_tree, KeepsRows}
 use Rattle.dep_statements.specs.Adding.{HasCounters}
-use Rattle.dep_types.specs.declared.store_fault.StoreFault.{StoreFault}
-use Rattle.dep_row_maps.specs.Laws as laws
-use Rattle.dep_tables.specs.declared.state.StateRow.{StateRow}
-use Rattle.dep_tables.specs.Rows.{stored_format}
-use Rattle.dep_tables.specs.Tables.{Tables, tables_from, tables_in, tables_of, AreOf, IsOf, IsKnownSchema, IsKnown}
+use Rattle.dep_tables.specs.Tables.{Tables, tables_in, tables_of, AreOf, IsOf, IsKnownSchema, IsKnown}
 use Rattle.dep_tables.specs.Clauses.{StaysInside, StaysWithin}
-use Rattle.dep_tables.specs.Versions.{our_version, IsKnownVersion, HasVersion}
+use Rattle.dep_tables.specs.Versions.{IsKnownVersion, HasVersion}
 use Rattle.dep_tables.specs.Schema.{our_schema, older_schema}
-use Rattle.dep_schema.specs.Beside.{LacksFormat, AreFree, with_ours}
+use Rattle.dep_migrations.specs.Beside.{LacksFormat, AreFree, with_ours}
+use Rattle.dep_migrations.specs.FirstTables.{no_schema, first_tables, IsBeside}
 
 -- what a crash may leave, and the next `open` find
 pub record HoldsOf (its : Schema) (trees : Trees) (tables : Tables) : Type 0 where
@@ -35,21 +30,9 @@ Holds = HoldsOf our_schema
 abbrev pub HoldsOlder : Trees → Tables → Type 0
 HoldsOlder = HoldsOf older_schema
 
--- the schema of a database with no table at all
-abbrev pub no_schema : Schema
-no_schema = record { tables = []; indexes = []; views = [] }
-
 -- no table at all
 abbrev pub HoldsNone : Trees → Type 0
 HoldsNone = IsSound no_schema
-
--- the connection sees this schema and these tables
-pub record SeesOf (its : Schema) (s : State) (tables : Tables) : Type 0 where
-  pub ours : IsOf its s
-  pub rows : tables_of s ≡ tables
-
-abbrev pub Sees : State → Tables → Type 0
-Sees = SeesOf our_schema
 
 -- between transactions, with the store open and these tables
 pub record IsOpenWithOf (its : Schema) (s : State) (tables : Tables) : Type 0 where
@@ -66,24 +49,6 @@ StaysFile = IsOpenWithOf our_schema
 -- the same of version 1
 abbrev pub IsOpenWithOlder : State → Tables → Type 0
 IsOpenWithOlder = IsOpenWithOf older_schema
-
-abbrev pub first_state : StateRow
-first_state = record { clock = 0; next = record { object = 1; file = 1; upload = 1; change = 1 } }
-
--- the tables of a new store
-abbrev pub first_tables : Tables
-first_tables = laws.first_tables (stored_format our_version ∷ [])
-
--- what a database becomes in which our first tables are made
-pub record IsBeside (old : Database) (trees : Trees) : Type 0 where
-  pub sound : IsSound (with_ours old.schema) trees
-  pub rows : tables_from (next_tree old.schema) trees ≡ first_tables
-  pub others : KeepsRows old.schema.tables old.trees trees
-
--- Our first tables are made, and our names were free.
-pub record GainsOurs (old new : Database) : Type 0 where
-  pub free : AreFree old.schema
-  pub made : HasCounters old.schema → (new.schema ≡ with_ours old.schema) × IsBeside old new.trees
 
 -- between transactions, with our first tables beside those of others
 pub record IsOpenBeside (old new : State) : Type 0 where
@@ -135,22 +100,6 @@ pub record IsStill (old new : State) : Type 0 where
 abbrev pub HasOtherVersion : State → Type 0
 HasOtherVersion s = (s.now.schema ≡ no_schema → ⊥)
     × (IsKnown s → HasKnownVersion (tables_of s) → ⊥)
-
--- inside a transaction, an Ok does this to the database that the connection sees
-abbrev pub Turns : {A E : Type 0} → State → State → Result A E → (Database → Database → Type 0) → Type 0
-Turns old new result does = HasCleanDisk new → IsTrue old.in_transaction
-    → OnOk result (does old.now new.now)
-
--- there an Ok has run this text
-abbrev pub HasRun : {A E : Type 0} → List ℕ → State → State → Result A E → Type 0
-HasRun text old new result = HasCleanDisk new → IsTrue old.in_transaction
-    → OnOk result ((count : ℕ) × ExecutesInside 0 text [] old new (Ok count))
-
--- there an Err has a cause of these, and whatever is answered, what every call on a transaction keeps
-pub record WorksWithin {T L A : Type 0} (lenders : T → L) (state : T → State) (old new : T)
-    (result : Result A StoreFault) (Fails : StoreFault → Type 0) : Type 0 where
-  pub cause : HasCleanDisk (state new) → IsTrue (state old).in_transaction → IfErr result Fails
-  pub stays : StaysWithin lenders state old new result
 
 -- what every call on a transaction of this connection keeps
 abbrev pub StaysOn : {S A E : Type 0} (g : Ghosts S) (old new : MutBor (Held S))

@@ -7,8 +7,9 @@ use Rattle.sqlite_trees.specs.declared.store.Store.{Ghosts}
 use Rattle.dep_statements.specs.Adding.{HasCounters}
 use Rattle.dep_tables.specs.Tables.{Tables, tables_of, IsOf, IsKnownSchema}
 use Rattle.dep_tables.specs.Versions.{our_version, HasVersion}
-use Rattle.dep_schema.specs.Beside.{LacksFormat}
-use Rattle.dep_schema.specs.OpenTables.{first_tables, HoldsNone, HoldsOf, StaysFile, IsOpenWithOf, IsOpenBeside, CommitsOpen}
+use Rattle.dep_migrations.specs.Beside.{LacksFormat}
+use Rattle.dep_migrations.specs.FirstTables.{first_tables}
+use Rattle.dep_schema.specs.OpenTables.{HoldsNone, HoldsOf, StaysFile, IsOpenWithOf, IsOpenBeside, CommitsOpen}
 use Rattle.dep_schema.specs.OpenFaults.{begun, ShowsOrMakes, FailsToOpen}
 use Rattle.dep_schema.specs.declared.opening.OpenFault.{OpenFault}
 

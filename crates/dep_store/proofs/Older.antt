@@ -7,13 +7,13 @@ use Rattle.sqlite_trees.specs.declared.store.Store.{Ghosts}
 use Rattle.dep_tables.specs.Schema.{our_schema}
 use Rattle.dep_tables.specs.Tables.{HasTablesOf, IsKnown, IsOurs}
 use Rattle.dep_tables.specs.Versions.{our_version, older_version, IsKnownVersion}
-use Rattle.dep_schema.specs.Beside.{AreNewNamesFree}
+use Rattle.dep_migrations.specs.Beside.{AreNewNamesFree}
 use Rattle.dep_types.specs.declared.store_fault.StoreFault.{StoreFault}
 use Rattle.dep_types.specs.declared.store_fault.StoreFault.TheVariants as fault
 use Rattle.dep_schema.specs.declared.opening.OpenFault.TheVariants.{UnknownVersion}
 use Rattle.dep_schema.specs.OpenFaults.{begun, open_fault_for, ShowsOrMakes, ShowsVersion, ReportsVersion}
 use Rattle.dep_schema.specs.OpenTables.{IsBack, IsStill}
-use Rattle.dep_schema.proofs.Upgraded.{new_not_free}
+use Rattle.dep_migrations.proofs.Upgraded.{new_not_free}
 use Rattle.dep_schema.proofs.Version.{not_older, shows_again}
 use Rattle.dep_store.specs.Causes.{HadFreeNames}
 

@@ -12,7 +12,8 @@ use Rattle.dep_row_maps.proofs.Whole.{first_stands}
 use Rattle.dep_tables.specs.Schema.{our_schema, older_schema}
 use Rattle.dep_tables.specs.Tables.{Tables, tables_in, HasTablesOf, IsKnownSchema}
 use Rattle.dep_tables.specs.Versions.{our_version, older_version, HasVersion}
-use Rattle.dep_schema.specs.OpenTables.{first_tables, HoldsOf, HoldsNone, IsOpenWithOf, CommitsOpen, IsOpenable, IsBack}
+use Rattle.dep_migrations.specs.FirstTables.{first_tables}
+use Rattle.dep_schema.specs.OpenTables.{HoldsOf, HoldsNone, IsOpenWithOf, CommitsOpen, IsOpenable, IsBack}
 use Rattle.dep_schema.proofs.Again.{sees_trees}
 use Rattle.dep_schema.proofs.Transacting.{IsSettled}
 use Rattle.dep_schema.proofs.Version.{not_older}

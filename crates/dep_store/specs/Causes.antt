@@ -7,7 +7,7 @@ use Rattle.dep_types.specs.declared.store_fault.StoreFault.{StoreFault}
 use Rattle.dep_tables.specs.Tables.{tables_of, IsKnown}
 use Rattle.dep_tables.specs.Versions.{our_version, older_version}
 use Rattle.dep_tables.specs.declared.sha512s.FileSha512.{FileSha512}
-use Rattle.dep_schema.specs.Beside.{AreNewNamesFree}
+use Rattle.dep_migrations.specs.Beside.{AreNewNamesFree}
 use Rattle.dep_schema.specs.OpenFaults.{open_fault_for, begun, FailsToOpen, ShowsOrMakes, ReportsVersion}
 use Rattle.dep_schema.specs.OpenTables.{IsStill}
 use Rattle.dep_schema.specs.Upgrading.{FailsToUpgrade}

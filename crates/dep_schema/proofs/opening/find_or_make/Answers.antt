@@ -3,11 +3,11 @@ use Rattle.std.proofs.lemmas.Result.{IfOk-from_err, err_from_is_err_and}
 use Rattle.sqlite.specs.Effect.{Database}
 use Rattle.sqlite.specs.Held.{state}
 use Rattle.sqlite.specs.State.{HasCleanDisk}
-use Rattle.dep_schema.specs.OpenFaults.{FailsToMake}
+use Rattle.dep_migrations.specs.Faults.{FailsToMake}
 use Rattle.dep_tables.proofs.Chains.{clean_before, stays_then, stays_ok, stays_err}
 use Rattle.dep_tables.specs.Tables.{tables_of}
 use Rattle.dep_tables.specs.Versions.{IsKnownVersion, HasVersion}
-use Rattle.dep_schema.specs.OpenTables.{GainsOurs}
+use Rattle.dep_migrations.specs.FirstTables.{GainsOurs}
 use Rattle.dep_schema.proofs.Asking.{lent_name, stays_on}
 use Rattle.dep_schema.proofs.Version.{never_named, never_refused, not_older, reported_as}
 use Rattle.dep_schema.proofs.Refusing.{match_err, some_is_not_none, of_found, none_found, matched_some, matched_none, lent_fails}

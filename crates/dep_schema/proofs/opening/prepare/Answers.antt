@@ -8,7 +8,7 @@ use Rattle.dep_tables.proofs.Chains.{was_clean}
 use Rattle.dep_schema.proofs.Prepared.{AreMade, AreMissed, IsCommitted, IsUncommitted, IsGivenUp, on_err_by}
 use Rattle.dep_schema.proofs.Prepared.{fresh, found, made_new, still, free, beside, opened, crash, fell_back, left, refused, crash_missed}
 use Rattle.dep_schema.specs.OpenFaults.{open_fault_for, FailsToFindOrMake, ShowsOrMakes, begun}
-use Rattle.dep_schema.proofs.Causes.{if_err_is}
+use Rattle.dep_migrations.proofs.Causes.{if_err_is}
 use Rattle.dep_schema.proofs.Refusing.{match_err, refuses_known, uncommitted, failed_only, clean_last}
 use Rattle.dep_schema.proofs.Version.{never_passed, never_refused, reported_as}
 use Rattle.dep_schema.proofs.opening.prepare.Goals as goal

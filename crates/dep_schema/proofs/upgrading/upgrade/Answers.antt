@@ -8,7 +8,7 @@ use Rattle.dep_schema.proofs.Asking.{lent_connection, lent_name}
 use Rattle.dep_schema.proofs.Transacting.{gave_up, works_within}
 use Rattle.dep_tables.proofs.Chains.{was_clean}
 use Rattle.dep_tables.proofs.Results.{if_failed}
-use Rattle.dep_schema.proofs.Causes.{if_err_is}
+use Rattle.dep_migrations.proofs.Causes.{if_err_is}
 use Rattle.dep_schema.specs.Upgrading.{FailsToUpgrade}
 use Rattle.dep_schema.proofs.Upgraded.{rewritten_within, statement_failed, upgrade_back, ended, crash_given_up, crash_committing}
 use Rattle.dep_schema.proofs.upgrading.upgrade.Goals as goal

@@ -9,7 +9,8 @@ use Rattle.dep_store.proofs.Opened.{opened_stood, first_means, leaves_migrated, 
 use Rattle.dep_schema.proofs.Version.{not_older}
 use Rattle.dep_store.proofs.Older.{never_unknown, one_left, reports_older, known_since, back_since, had_free, not_upgraded}
 use Rattle.dep_schema.specs.OpenFaults.{begun, ShowsOrMakes}
-use Rattle.dep_schema.specs.OpenTables.{StaysFile, first_tables}
+use Rattle.dep_schema.specs.OpenTables.{StaysFile}
+use Rattle.dep_migrations.specs.FirstTables.{first_tables}
 use Rattle.dep_files.proofs.Reported.{passed_on}
 use Rattle.dep_store.proofs.store.Store.open.Goals as goal
 
