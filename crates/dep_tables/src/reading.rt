@@ -38,7 +38,7 @@ pub(crate) trait FromRow: Sized {
     fn kinds() -> &'static [ColumnKind]
         ensures { result.now ≡ columns };
 
-    /// What the row represents.
+    /// What the row represents. An `Err` is lack of memory.
     fn from_row(row: &Row) -> Result<Self, AllocError>
         requires { HasKinds columns row.now }
         ensures reported { IfOk result (λ r. values r ≡ columns_from 0 width row.now) }

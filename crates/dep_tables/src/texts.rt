@@ -19,7 +19,7 @@ pub(crate) fn text_value(text: &Text) -> ValueRef<'_>
     ValueRef::Text(text.as_str().as_bytes())
 }
 
-/// A copy of the value in this column of a row.
+/// A copy of the value in this column of a row. An `Err` is lack of memory.
 pub(crate) fn copy_at<T: FromSql>(row: &Row, at: usize) -> Result<T, AllocError>
     requires { HasAt T.is_readable row.now at }
     ensures { IfOk result (λ read. T.reads_as (column row.now at) read) }
@@ -71,7 +71,7 @@ pub(crate) fn digest_or_null(digest: &Option<[u8; 32]>) -> ValueRef<'_>
     }
 }
 
-/// A digest of N bytes.
+/// The digest of N bytes in this column of a row.
 pub(crate) fn digest_at<const N: usize>(row: &Row, at: usize) -> [u8; N]
     requires { HasAt (IsDigestValue N) row.now at }
     ensures { column row.now at ≡ Blob result }
