@@ -108,6 +108,14 @@ ended_as came.Open = Closed
 ended_as came.Closed = Closed
 ended_as came.NoSuch = Closed
 
+-- how an arrival returns that no item is answered any more
+abbrev pub arrived_as : Next → Arrived
+arrived_as More = came.Open
+arrived_as Waiting = came.Open
+arrived_as Closed = came.Closed
+arrived_as Cut = came.Cut
+arrived_as NoSuch = came.NoSuch
+
 -- what comes after an item that was answered so
 abbrev pub next_behind : Answered → (is_last : Bool) → Next
 next_behind Sent false = More
