@@ -109,12 +109,12 @@ ended_as came.Closed = Closed
 ended_as came.NoSuch = Closed
 
 -- how an arrival returns that no item is answered any more
-abbrev pub arrived_as : Next → Arrived
-arrived_as More = came.Open
-arrived_as Waiting = came.Open
-arrived_as Closed = came.Closed
-arrived_as Cut = came.Cut
-arrived_as NoSuch = came.NoSuch
+abbrev pub arrived_by : Next → Arrived
+arrived_by More = came.Open
+arrived_by Waiting = came.Open
+arrived_by Closed = came.Closed
+arrived_by Cut = came.Cut
+arrived_by NoSuch = came.NoSuch
 
 -- what comes after an item that was answered so
 abbrev pub next_behind : Answered → (is_last : Bool) → Next
