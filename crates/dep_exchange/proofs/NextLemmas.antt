@@ -13,7 +13,7 @@ use Rattle.dep_exchange.specs.Machine.{state_after, answer_at_place, SendsUpTo, 
 use Rattle.dep_exchange.specs.Sending.{Outside, Passes, outside, outside_of}
 use Rattle.dep_exchange.specs.Owing.{Owing}
 use Rattle.dep_exchange.specs.Serving.{KeepsIntake, Arrival, Answers, IsDeadIfShut, Progress, ServesOver, answer_after}
-use Rattle.dep_exchange.specs.Nexts.{Stays, Rests, RunsOut, IsLast, IsDead, Ends, GoesOn, IsWaiting, AnswersNext, TakesNext, ended_as, next_behind, reading_behind}
+use Rattle.dep_exchange.specs.Nexts.{Stays, Rests, RunsOut, IsLast, IsDead, Ends, GoesOn, IsWaiting, AnswersNext, TakesNext, arrived_by, ended_as, next_behind, reading_behind}
 use Rattle.dep_exchange.specs.Shut.{EndsFixed, waits, has_ended}
 use Rattle.dep_exchange.specs.declared.rest.Rest.{Rest}
 use Rattle.dep_exchange.specs.declared.arrived.Arrived.{Arrived}
@@ -39,13 +39,13 @@ closed_more e = cc
 cut_more : next.Cut ≢ More
 cut_more e = cc
 
-pub open_there : StaysOpen ≢ NoSuch
+open_there : StaysOpen ≢ NoSuch
 open_there e = cc
 
-pub closed_there : Closed ≢ NoSuch
+closed_there : Closed ≢ NoSuch
 closed_there e = cc
 
-pub cut_there : Cut ≢ NoSuch
+cut_there : Cut ≢ NoSuch
 cut_there e = cc
 
 pub waiting_more : next.Waiting ≢ More
@@ -162,7 +162,7 @@ module _ (config : Config) (came : Arrival) (old mid new : Outside) (reading : R
   served_on {next} g = served_more g.item v (first_at _ _ _ next g.item limit g.first) g.answers
 
   -- no item is complete any more
-  pub serves_wait : (next : Place) → Settles new.store → (IsDeadIfShut came.reading → IsDeadIfShut reading) → IsWaiting reading mid new next
+  serves_wait : (next : Place) → Settles new.store → (IsDeadIfShut came.reading → IsDeadIfShut reading) → IsWaiting reading mid new next
       → ServesOver config came old new next StaysOpen
   serves_wait next settles dead w =
       serves_waiting config came old new reading.place (served_stays v w.rests) settles next w.same StaysOpen (λ d. answer_open reading (dead d) w.lives) (λ e. cc) waits
@@ -184,8 +184,25 @@ module _ (config : Config) (came : Arrival) (old mid new : Outside) (reading : R
   serves_by answer p settles e (inr (inr d)) = serves_dead answer p settles e d
 
   -- the connection ends
-  pub serves_end : (answer : Arrived) (p : Place) → Settles new.store → Ends config reading came.moment mid new p answer → ServesOver config came old new p answer
+  serves_end : (answer : Arrived) (p : Place) → Settles new.store → Ends config reading came.moment mid new p answer → ServesOver config came old new p answer
   serves_end answer p settles x = serves_by answer p settles x.0 x.1
+
+  -- no item is answered any more
+  pub serves_stop : (n : Next) (at : Place) → Settles new.store → (IsDeadIfShut came.reading → IsDeadIfShut reading) → n ≢ More
+      → AnswersNext config reading came.moment mid new at n → ServesOver config came old new at (arrived_by n)
+  serves_stop More at settles dead never a = absurd (never refl)
+  serves_stop next.Waiting at settles dead never a = serves_wait at settles dead a
+  serves_stop next.Closed at settles dead never a = serves_end Closed at settles a
+  serves_stop next.Cut at settles dead never a = serves_end Cut at settles a
+  serves_stop next.NoSuch at settles dead never a = absurd a
+
+-- and it is there
+pub arrived_there : (config : Config) (reading : Reading) (moment : ℕ) (old new : Outside) (at : Place) (n : Next) → AnswersNext config reading moment old new at n → arrived_by n ≢ NoSuch
+arrived_there config reading moment old new at More a = open_there
+arrived_there config reading moment old new at next.Waiting a = open_there
+arrived_there config reading moment old new at next.Closed a = closed_there
+arrived_there config reading moment old new at next.Cut a = cut_there
+arrived_there config reading moment old new at next.NoSuch a = absurd a
 
 -- an item is answered over a connection that is there
 pub next_there : (config : Config) (reading : Reading) (moment : ℕ) (before after : Outside) (at : Place) (n : Next) → AnswersNext config reading moment before after at n → n ≢ next.NoSuch

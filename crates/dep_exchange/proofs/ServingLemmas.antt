@@ -1,7 +1,7 @@
 -- How the serving of an arrival goes on, and how it ends.
-use Rattle.std.proofs.Common.{◌≡◌, ◌≢◌, ◌⊎◌, inl, ℕ, Bool, true, false, if◌then◌else◌, List, [], ◌∷◌, ◌++◌, IsTrue, refl, sym, ap, subst, ◌∙◌, append_assoc, Option}
+use Rattle.std.proofs.Common.{◌≡◌, ◌≢◌, ◌⊎◌, inl, inr, ℕ, Bool, true, false, if◌then◌else◌, List, [], ◌∷◌, ◌++◌, IsTrue, refl, sym, ap, subst, ◌∙◌, append_assoc, Option, Err}
 use Rattle.std.proofs.lemmas.List.{append-nil}
-use Rattle.dep_types.specs.State.{State}
+use Rattle.dep_types.specs.State.{State, tick}
 use Rattle.dep_types.specs.declared.config.Config.{Config}
 use Rattle.dep_types.specs.Writing.{IsProperPrefix, HasRisen}
 use Rattle.dep_types.specs.declared.refusal.Refusal.{Refusal}
@@ -14,18 +14,19 @@ use Rattle.dep_message.proofs.Reading.{reads_one}
 use Rattle.dep_answers.specs.Steps.{sent_by}
 use Rattle.dep_types.specs.Conditions.{Condition, Represents, HasCleanDisk, Leaves}
 use Rattle.dep_exchange.specs.Machine.{starting_state, step, replies, state_after, continue_line, Fails, Serves, given_up, cut_short, serves_all, step_fails, gives_up, answer_at_place}
+use Rattle.dep_exchange.specs.Archives.{FailsIfShut, Ticks}
 use Rattle.dep_exchange.specs.Causes.{IsCutInContent}
 use Rattle.dep_exchange.specs.Sending.{IsReplySent, SendsOver, SendsReply, Outside, Passes, SendsStep, reply_to}
 use Rattle.dep_exchange.specs.Serving.{Arrival, IsDeadIfShut, FailsFrom, IsAnsweredBy, IsFixedSent, IsAnsweredShut, IsStill, ReadsWith, Answers, Progress, ServesFrom, ServesOver, answer_after}
 use Rattle.dep_exchange.specs.Nexts.{RunsOut}
 use Rattle.dep_exchange.specs.Shut.{LeavesNoMore, IfShut, EndsFixed, has_ended}
 use Rattle.dep_exchange.specs.Shut as fixed
-use Rattle.dep_exchange.proofs.ShutLemmas.{leaves_same, leaves_both, shut_both, sends_up_to, is_fixed, continues_more, ends_fixed, sends_behind, sends_no_more}
+use Rattle.dep_exchange.proofs.ShutLemmas.{leaves_same, leaves_both, shut_both, sends_up_to, is_fixed, continues_more, ends_fixed, sends_behind, sends_no_more, was_cut}
 use Rattle.dep_exchange.specs.declared.arrived.Arrived.{Arrived}
 use Rattle.dep_exchange.specs.declared.arrived.Arrived.TheVariants.{Open as StaysOpen, Closed, Cut}
 use Rattle.dep_exchange.specs.declared.sending.Answered.{Answered}
 use Rattle.dep_exchange.specs.declared.sending.Answered.TheVariants.{Sent, GaveUp, CutShort}
-use Rattle.dep_exchange.proofs.Leaving.{Settles, stays_as}
+use Rattle.dep_exchange.proofs.Leaving.{Settles, leaves_wider, stays_as}
 use Rattle.dep_exchange.proofs.SendingLemmas.{passes_none, passes_both, passes_at}
 
 -- what is sent for one item more
@@ -116,33 +117,47 @@ module _ (config : Config) (old new : Outside) (item : Item) (moment : ℕ) (fau
     (gives : HasCleanDisk new.store → (s : State) → Represents old.store s → GivesUp config s item moment new.store)
     (asks : (sent : List ℕ) (answer : Answered) → IsFixedSent sent answer → IsAnsweredShut item sent answer)
     (shut : IfShut old.store new.store (LeavesNoMore old.store new.store)) where
+  fails_given : (how : Answered) (x : SendsOver old.taken new.taken old.failures new.failures (reply_to fault) how)
+      → HasCleanDisk new.store → (s : State) → Represents old.store s → FailsFrom config s item moment x.0 old new (answer_after how)
+  fails_given how x disk s represents = let v = gives disk s represents in record {
+    left = v.left;
+    fails = given_up (is_fixed fault) (sends_up_to (reply_to fault) x.0 how x.2) v.is_left;
+    represents = v.represents;
+    stop = v.stop;
+    cause = λ e. inl (x.3 (was_cut how e));
+  }
+
   pub answers_fixed : (answer : Answered) → SendsOver old.taken new.taken old.failures new.failures (reply_to fault) answer
       → Answers config old new item moment answer
   answers_fixed Sent x = absurd x.2
   answers_fixed GaveUp x = record {
     sent = x.0;
     passes = record { appends = x.1; honest = honest; clean = clean };
-    steps = λ disk s represents. let v = gives disk s represents in record {
-      left = v.left;
-      fails = given_up (is_fixed fault) (sends_up_to (reply_to fault) x.0 GaveUp x.2) v.is_left;
-      represents = v.represents;
-      stop = v.stop;
-      cause = λ e. cc;
-    };
+    steps = fails_given GaveUp x;
     shut = λ disk none. (asks x.0 GaveUp (reply_to fault, is_fixed fault, x.2), shut disk none);
   }
   answers_fixed CutShort x = record {
     sent = x.0;
     passes = record { appends = x.1; honest = honest; clean = clean };
-    steps = λ disk s represents. let v = gives disk s represents in record {
-      left = v.left;
-      fails = given_up (is_fixed fault) (sends_up_to (reply_to fault) x.0 CutShort x.2) v.is_left;
-      represents = v.represents;
-      stop = v.stop;
-      cause = λ e. inl (x.3 refl);
-    };
+    steps = fails_given CutShort x;
     shut = λ disk none. (asks x.0 CutShort (reply_to fault, is_fixed fault, x.2), shut disk none);
   }
+
+-- the clock couldn't go on, with which the item's step begins
+pub answers_unticked : (config : Config) (old new : Outside) (item : Item) (moment : ℕ) (fault : StoreFault)
+    → ((s : State) → starting_state config s item moment ≡ tick config s moment)
+    → ((sent : List ℕ) (answer : Answered) → IsFixedSent sent answer → IsAnsweredShut item sent answer)
+    → Ticks old.store new.store config moment (Err fault) → FailsIfShut {A = ℕ} old.store new.store (Err fault)
+    → (answer : Answered) → SendsOver old.taken new.taken old.failures new.failures (reply_to fault) answer → Answers config old new item moment answer
+answers_unticked config old new item moment fault starts asks ticks fails answer sends =
+    answers_fixed config old new item moment fault ticks.honest ticks.was_open
+    (λ disk s represents. record {
+      left = s;
+      is_left = inl refl;
+      represents = λ is_open. ticks.err is_open s represents;
+      stop = leaves_wider new.store _ _ (λ found e. elim e [ inl same ↦ inl same | inr next ↦ inr (inl (next ∙ sym (starts s))) ]) (ticks.stop disk s represents tt);
+    })
+    asks fails.left answer sends
 
 -- an item's own reply, once its step was made
 pub answers_from : (config : Config) (s : State) (item : Item) (moment : ℕ) (sent : List ℕ) (old new : Outside) (answer : Answered)

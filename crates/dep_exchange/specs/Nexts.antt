@@ -108,6 +108,14 @@ ended_as came.Open = Closed
 ended_as came.Closed = Closed
 ended_as came.NoSuch = Closed
 
+-- how an arrival returns that no item is answered any more
+abbrev pub arrived_by : Next → Arrived
+arrived_by More = came.Open
+arrived_by Waiting = came.Open
+arrived_by Closed = came.Closed
+arrived_by Cut = came.Cut
+arrived_by NoSuch = came.NoSuch
+
 -- what comes after an item that was answered so
 abbrev pub next_behind : Answered → (is_last : Bool) → Next
 next_behind Sent false = More

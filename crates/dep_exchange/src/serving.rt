@@ -4,7 +4,7 @@ ghost use Rattle.dep_message.specs.Places.{shut_reading};
 ghost use Rattle.dep_exchange.specs.Sending.{outside_of};
 ghost use Rattle.dep_exchange.specs.Serving.{BeginsFirst, ServesOver, KeepsIntake, arrival_with, answer_after};
 ghost use Rattle.dep_exchange.specs.Owing.{Owing};
-ghost use Rattle.dep_exchange.specs.Nexts.{TakesNext, ReportsLackOfMemory, ended_as, next_behind, reading_behind};
+ghost use Rattle.dep_exchange.specs.Nexts.{TakesNext, ReportsLackOfMemory, arrived_by, ended_as, next_behind, reading_behind};
 
 use crate::access_log::{AccessLog, NoLog};
 use crate::archive::Archive;
@@ -56,11 +56,20 @@ pub fn serve<A: Archive, O: Outlet>(
         let (next, _) = take_next(&context, store, intake, out, &mut NoLog);
         match next {
             Next::More => {}
-            Next::Waiting => return Arrived::Open,
-            Next::Closed => return Arrived::Closed,
-            Next::Cut => return Arrived::Cut,
-            Next::NoSuch => unreachable!(),
+            _ => return arrived(next),
         }
+    }
+}
+
+// How an arrival returns this, where no item is answered any more.
+fn arrived(next: Next) -> Arrived
+    ensures { result ≡ arrived_by next }
+{
+    match next {
+        Next::More | Next::Waiting => Arrived::Open,
+        Next::Closed => Arrived::Closed,
+        Next::Cut => Arrived::Cut,
+        Next::NoSuch => Arrived::NoSuch,
     }
 }
 

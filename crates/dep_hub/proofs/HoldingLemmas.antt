@@ -9,10 +9,10 @@ use Rattle.dep_exchange.specs.Machine.{out_of_memory}
 use Rattle.dep_exchange.specs.Records.{Connect, Close, Arrive, Record, stopped, first_world, connects, closes, arrives, Run, goes_on, stops, Line, Absent, Live, World, with_line}
 use Rattle.dep_exchange.specs.Sending.{Outside, outside}
 use Rattle.dep_exchange.specs.Serving.{IsDeadIfShut}
-use Rattle.dep_exchange.specs.Nexts.{RunsOut, AnswersNext}
+use Rattle.dep_exchange.specs.Nexts.{RunsOut, AnswersNext, arrived_by}
 use Rattle.dep_hub.specs.Representing.{intake_of, IsKeptAs, RepresentsAt, store_of, IsClean}
 use Rattle.dep_exchange.specs.Archives.{KeepsAll}
-use Rattle.dep_hub.specs.Holding.{RestsOn, RepresentsOn, with_held, fed, IsHeldAs, Outcome, arrived_by, IsNext, IsRefused, KeepsHolding, RepresentsHolding, RepresentsHoldingAfter, LineTransition, PartArrives, AnswersOver, ComesToNext, OffersTo}
+use Rattle.dep_hub.specs.Holding.{RestsOn, RepresentsOn, with_held, fed, IsHeldAs, Outcome, IsNext, IsRefused, KeepsHolding, RepresentsHolding, RepresentsHoldingAfter, LineTransition, PartArrives, AnswersOver, ComesToNext, OffersTo}
 use Rattle.dep_hub.specs.Numbers.{index_of, Ascends}
 use Rattle.dep_exchange.specs.declared.arrived.Arrived.{Arrived}
 use Rattle.dep_exchange.specs.declared.arrived.Arrived.TheVariants as came

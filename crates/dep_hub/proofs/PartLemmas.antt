@@ -15,9 +15,9 @@ use Rattle.dep_exchange.specs.Sending.{Outside}
 use Rattle.dep_exchange.specs.Serving.{Answers, FailsFrom, IsAnsweredShut, IsDeadIfShut, IsStill, OnlyContinues, answer_after}
 use Rattle.dep_exchange.specs.Shut.{waits, has_ended}
 use Rattle.dep_exchange.specs.Shut as fixed
-use Rattle.dep_exchange.specs.Nexts.{RunsOut, IsLast, IsDead, GoesOn, IsWaiting, AnswersNext}
+use Rattle.dep_exchange.specs.Nexts.{RunsOut, IsLast, IsDead, GoesOn, IsWaiting, AnswersNext, arrived_by}
 use Rattle.dep_hub.specs.Representing.{IsShut}
-use Rattle.dep_hub.specs.Holding.{Outcome, ArrivesAs, items_answered, arrived_by, IsNext}
+use Rattle.dep_hub.specs.Holding.{Outcome, ArrivesAs, items_answered, IsNext}
 use Rattle.dep_exchange.specs.declared.arrived.Arrived.{Arrived}
 use Rattle.dep_exchange.specs.declared.arrived.Arrived.TheVariants as came
 use Rattle.dep_exchange.specs.declared.next.Next.{Next}

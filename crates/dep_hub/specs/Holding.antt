@@ -47,14 +47,6 @@ abbrev pub items_answered : {config : Config} {piece : List ℕ} {moment : ℕ} 
 items_answered (at_live serves) = items_served serves
 items_answered at_shut_line = 0
 
--- what the arrival of a part of the held bytes returns
-abbrev pub arrived_by : Next → Arrived
-arrived_by More = came.Open
-arrived_by Waiting = came.Open
-arrived_by Closed = came.Closed
-arrived_by Cut = came.Cut
-arrived_by NoSuch = came.NoSuch
-
 -- what is said of such an arrival: how many items it answered, which bytes are held still, and
 -- which were sent
 abbrev pub Outcome : Type 1

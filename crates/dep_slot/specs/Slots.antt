@@ -3,9 +3,10 @@ use Rattle.std.specs.Prelude.{◌≡◌, ◌≢◌, ◌⊎◌, ◌<◌, ◌≤�
 use Rattle.std.specs.Io.KnownBytes.{Appends, Keeps, Consumes, IsAtEnd}
 use Rattle.dep_types.specs.Conditions.{Condition}
 use Rattle.dep_exchange.specs.Records.{Line}
+use Rattle.dep_exchange.specs.Nexts.{arrived_by}
 use Rattle.dep_hub.specs.Numbers.{most_read}
 use Rattle.dep_hub.specs.Representing.{IsClean, IsHonest, intake_of}
-use Rattle.dep_hub.specs.Holding.{KeepsHolding, AnswersOver, IsNext, IsRefused, arrived_by, with_held}
+use Rattle.dep_hub.specs.Holding.{KeepsHolding, AnswersOver, IsNext, IsRefused, with_held}
 use Rattle.dep_exchange.specs.Owing.{with_more}
 use Rattle.dep_hub.specs.Owed.{bytes_later}
 use Rattle.dep_hub.specs.Claims.{is_content}

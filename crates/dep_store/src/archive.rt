@@ -129,7 +129,11 @@ impl<S: Alter> Archive for HashingStore<S> {
         self.store.begin(it)
     }
 
-    fn stream_on<O: Outlet>(&mut self, rest: Rest, out: &mut O) -> Result<Option<u64>, StreamFault> {
+    fn stream_on<O: Outlet>(
+        &mut self,
+        rest: Rest,
+        out: &mut O,
+    ) -> Result<Option<u64>, StreamFault> {
         self.store.stream_on(rest.file, rest.sent, out)
     }
 

@@ -5,7 +5,7 @@ use Rattle.dep_message.specs.declared.message.Message.{Message}
 use Rattle.dep_exchange.specs.Machine.{step}
 use Rattle.dep_exchange.specs.Sending.{outside}
 use Rattle.dep_exchange.proofs.Leaving.{leaves_wider}
-use Rattle.dep_exchange.proofs.ServingLemmas.{answers_fixed, answers_from, made_from}
+use Rattle.dep_exchange.proofs.ServingLemmas.{answers_fixed, answers_from, answers_unticked, made_from}
 use Rattle.dep_exchange.specs.Serving.{BeginsSource}
 use Rattle.dep_exchange.proofs.BeginLemmas.{begins_as, ready_source}
 use Rattle.dep_exchange.proofs.step.answer_message.Goals as goal
@@ -60,23 +60,15 @@ returns-in-Err-answer_routed-clause-owing g c =
     )
 
 pub returns-in-Err-clause-owing : goal.returns-in-Err-clause-owing
-unfolding step
-returns-in-Err-clause-owing g c =
-    let new = g.A.Archive.condition c.tick.new.self in (
-      None,
-      refl,
-      (c.send_fault-in-Err.ensures.0, c.send_fault-in-Err.ensures.1),
-      answers_fixed c.args.context.now.site.now (outside (g.O.Outlet.taken c.args.out.now) (g.O.Outlet.failures c.args.out.now) (g.A.Archive.condition c.args.store.now)) (outside (g.O.Outlet.taken c.send_fault-in-Err.new.out) (g.O.Outlet.failures c.send_fault-in-Err.new.out) (g.A.Archive.condition c.tick.new.self)) (Request c.args.item.message) c.args.context.now.moment c.in-Err.fault
-          c.tick.ensures.does.honest c.tick.ensures.does.was_open
-          (λ disk s represents. record {
-            left = s;
-            is_left = inl refl;
-            represents = λ is_open. c.in-Err.ensures.does.err is_open s represents;
-            stop = leaves_wider new _ _ (λ found e. elim e [ inl same ↦ inl same | inr next ↦ inr (inl next) ]) ((rw (c.config.ensures ∙ c.service.ensures) at c.tick.ensures.does).stop disk s represents tt);
-          })
-          (λ sent answer h. h) c.tick.ensures.shut.left
-          c.send_fault-in-Err.result c.send_fault-in-Err.ensures,
-    )
+returns-in-Err-clause-owing g c = (
+  None,
+  refl,
+  (c.send_fault-in-Err.ensures.0, c.send_fault-in-Err.ensures.1),
+  answers_unticked c.args.context.now.site.now (outside (g.O.Outlet.taken c.args.out.now) (g.O.Outlet.failures c.args.out.now) (g.A.Archive.condition c.args.store.now))
+      (outside (g.O.Outlet.taken c.send_fault-in-Err.new.out) (g.O.Outlet.failures c.send_fault-in-Err.new.out) (g.A.Archive.condition c.tick.new.self)) (Request c.args.item.message)
+      c.args.context.now.moment c.in-Err.fault (λ s. refl) (λ sent answer h. h) (rw (c.config.ensures ∙ c.service.ensures) at c.in-Err.ensures.does) c.in-Err.ensures.shut
+      c.send_fault-in-Err.result c.send_fault-in-Err.ensures,
+)
 
 pub returns-in-Ok-answer_routed-clause-begins : goal.returns-in-Ok-answer_routed-clause-begins
 unfolding step
