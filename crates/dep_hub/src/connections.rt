@@ -7,7 +7,7 @@ use dep_message::Intake;
 use std::marker::Model;
 
 /// The number of a connection. A hub gives none twice.
-#[derive(Clone, Copy)]
+#[derive(Clone, Copy, PartialEq, Eq)]
 pub struct ConnId {
     number: u64,
 }
