@@ -24,7 +24,7 @@ impl<'a> Task for MoveClock<'a> {
         (λ s. tick asked.config.now s asked.moment) };
 
     fn run<T: Statements>(&self, tx: &mut T) -> Result<Moment, StoreFault> {
-        let moved = dep_staging::tick(tx, self.config, self.moment)?;
+        let moved = dep_uploads::tick(tx, self.config, self.moment)?;
         let clock = Moment::new(moved);
         Ok(clock)
     }

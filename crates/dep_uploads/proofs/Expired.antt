@@ -20,7 +20,7 @@ use Rattle.dep_row_maps.specs.Left.{was_left_before, ReportsLeft}
 use Rattle.dep_row_maps.proofs.Left.{left_before_read}
 use Rattle.dep_row_maps.proofs.Files.{same_number}
 use Rattle.dep_row_maps.proofs.Lens.{tied_not, get_gone, get_left}
-use Rattle.dep_staging.specs.Expiring.{timed_out, expired_all}
+use Rattle.dep_uploads.specs.Expiring.{timed_out, expired_all}
 
 -- ---- to be idle is to be left before a moment
 

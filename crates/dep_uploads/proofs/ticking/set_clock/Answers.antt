@@ -5,7 +5,7 @@ use Rattle.dep_tables.proofs.Results.{ok_then}
 use Rattle.dep_row_maps.specs.TablesAre.{TablesAre, with_counters}
 use Rattle.dep_row_maps.proofs.Whole.{state_written}
 use Rattle.dep_row_maps.proofs.Changing.{changes_put, tables_by, tables_kept}
-use Rattle.dep_staging.proofs.ticking.set_clock.Goals as goal
+use Rattle.dep_uploads.proofs.ticking.set_clock.Goals as goal
 
 pub returns-then-clock-row : goal.returns-then-clock-row
 returns-then-clock-row g c = record {

@@ -7,11 +7,11 @@ use Rattle.dep_tables.proofs.Results.{if_ok}
 use Rattle.dep_tables.proofs.Chains.{clean_before, stays_then}
 use Rattle.dep_row_maps.specs.TablesAre.{TablesAre, with_upload}
 use Rattle.dep_row_maps.proofs.Lens.{get_here, insert_twice}
-use Rattle.dep_staging.proofs.Lacking.{lacked}
+use Rattle.dep_uploads.proofs.Lacking.{lacked}
 use Rattle.dep_staging.proofs.UploadCalls.{received, received_into}
 use Rattle.dep_row_maps.proofs.Changing.{changes_then, inside_after, tables_after, tables_by, tables_kept}
 use Rattle.dep_row_maps.proofs.Calling.{changes_failed}
-use Rattle.dep_staging.proofs.segments.put_segment.Goals as goal
+use Rattle.dep_uploads.proofs.segments.put_segment.Goals as goal
 
 pub returns-clause-does : goal.returns-clause-does
 returns-clause-does g c =

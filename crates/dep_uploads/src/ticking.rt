@@ -6,10 +6,10 @@ ghost use Rattle.dep_types.specs.State.{State, clock_at};
 ghost use Rattle.dep_row_maps.specs.Stored.{state_row};
 ghost use Rattle.dep_row_maps.specs.TablesAre.{with_counters};
 ghost use Rattle.dep_row_maps.specs.Clauses.{ChangesMaps, Does, FromMaps};
-ghost use Rattle.dep_staging.specs.Expiring.{timed_out, expired_all};
+ghost use Rattle.dep_uploads.specs.Expiring.{timed_out, expired_all};
 ghost use Rattle.dep_staging.specs.Changing.{IsTicked};
 
-use crate::uploads::drop_upload;
+use dep_staging::drop_upload;
 use dep_tables::{StateRow, Statements, insert_timed_out, left_before, read_state, write_state};
 use dep_types::{Config, GREATEST_MOMENT, StoreFault};
 

@@ -1,7 +1,7 @@
 use Rattle.std.proofs.Common.{◌∙◌, ap, max, min}
 use Rattle.dep_types.specs.Limits.{greatest_moment}
 use Rattle.dep_tables.specs.declared.state.StateRow.{StateRow}
-use Rattle.dep_staging.proofs.ticking.clock_at.Goals as goal
+use Rattle.dep_uploads.proofs.ticking.clock_at.Goals as goal
 
 pub returns : goal.returns
 returns c s is =

@@ -4,11 +4,11 @@ use Rattle.dep_tables.specs.Tables.{Tables, tables_of}
 use Rattle.dep_tables.proofs.Chains.{clean_before, stays_then, stays_ok, still_ours, stays_put}
 use Rattle.dep_row_maps.specs.TablesAre.{TablesAre}
 use Rattle.dep_files.proofs.Results.{same_tables}
-use Rattle.dep_staging.specs.Expiring.{expired_all}
-use Rattle.dep_staging.proofs.Expired.{none_expired, one_more, all_expired}
+use Rattle.dep_uploads.specs.Expiring.{expired_all}
+use Rattle.dep_uploads.proofs.Expired.{none_expired, one_more, all_expired}
 use Rattle.dep_row_maps.proofs.Changing.{changes_err}
 use Rattle.std.proofs.lemmas.Result.{IfOk-from_err}
-use Rattle.dep_staging.proofs.ticking.expire_idle.Goals as goal
+use Rattle.dep_uploads.proofs.ticking.expire_idle.Goals as goal
 
 pub uploads-init : goal.uploads-init
 uploads-init g c = (

@@ -4,10 +4,10 @@ use Rattle.dep_tables.specs.Tables.{Tables, tables_of}
 use Rattle.dep_tables.proofs.Results.{ok_then}
 use Rattle.dep_row_maps.specs.TablesAre.{TablesAre}
 use Rattle.dep_row_maps.proofs.Whole.{timed_out_put}
-use Rattle.dep_staging.specs.Expiring.{timed_out}
+use Rattle.dep_uploads.specs.Expiring.{timed_out}
 use Rattle.dep_row_maps.proofs.Changing.{changes_then, inside_after, tables_by, tables_kept}
 use Rattle.dep_row_maps.proofs.Calling.{changes_failed}
-use Rattle.dep_staging.proofs.ticking.expire.Goals as goal
+use Rattle.dep_uploads.proofs.ticking.expire.Goals as goal
 
 pub returns : goal.returns
 returns g c = record {

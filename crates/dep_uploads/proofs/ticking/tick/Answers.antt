@@ -5,11 +5,11 @@ use Rattle.dep_row_maps.specs.Stored.{state_row}
 use Rattle.dep_row_maps.specs.TablesAre.{TablesAre}
 use Rattle.dep_row_maps.proofs.Readings.{state_read}
 use Rattle.dep_files.proofs.Behind.{behind}
-use Rattle.dep_staging.proofs.Expired.{tick_is}
+use Rattle.dep_uploads.proofs.Expired.{tick_is}
 use Rattle.dep_tables.proofs.Chains.{stays_then}
 use Rattle.dep_row_maps.proofs.Changing.{changes_err, changes_ok, changes_then, inside_after, reads_change}
 use Rattle.std.proofs.lemmas.Result.{IfOk-from_err}
-use Rattle.dep_staging.proofs.ticking.tick.Goals as goal
+use Rattle.dep_uploads.proofs.ticking.tick.Goals as goal
 
 pub returns : goal.returns
 returns g c = record {

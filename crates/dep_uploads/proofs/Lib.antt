@@ -1,0 +1,2 @@
+mod Lacking
+mod Expired
