@@ -8,7 +8,7 @@ use Rattle.dep_types.specs.declared.store_fault.StoreFault.{StoreFault}
 use Rattle.dep_types.specs.declared.store_fault.StoreFault.TheVariants.{Store}
 use Rattle.dep_tables.specs.Schema.{our_schema}
 use Rattle.dep_tables.specs.Tables.{Tables, tables_of, IsOurs, Leads}
-use Rattle.dep_tables.specs.Clauses.{Statement, Query, Shows, Writes, Queries, RunsWithin, AsksWithin, FailsToRun, FailsWithRows, ShowsColumns}
+use Rattle.dep_tables.specs.Clauses.{Statement, Query, Shows, Makes, Writes, Queries, AsksWhere, RunsWithin, AsksWithin, FailsToRun, FailsWithRows, ShowsColumns}
 use Rattle.dep_tables.proofs.Results.{ok_then, if_then}
 use Rattle.dep_tables.proofs.Leading.{plain_here}
 use Rattle.dep_tables.proofs.Chains.{unchanged_itself, stays_put, reads_refused, plain_reads}
@@ -24,6 +24,19 @@ module _ {T L A : Type 0} {lenders : T → L} {state : T → State} {tx : T} whe
     keeps = record {
       stays = stays_put lenders state tx (Err Store);
       err = λ clean inside is_open. inl (unchanged_itself (state tx) is_open);
+    };
+  }
+
+  -- whatever the query
+  pub refuses_asking : {storable : Type 0} {text : List ℕ} {params : Row} {width : ℕ} {values : A → List Row} {copies : Type 0} {are_ours : List Row → Type 0} → (storable → ⊥) → AsksWhere lenders state tx tx (Err Store) storable text params width values copies are_ours
+  refuses_asking never = record {
+    shown = λ clean. tt;
+    numbers = λ refused. (refl, λ is_open. unchanged_itself (state tx) is_open);
+    cause = λ storable clean. absurd (never storable);
+    keeps = record {
+      stays = stays_put lenders state tx (Err Store);
+      same = λ clean plain. tt;
+      err = λ plain clean inside is_open. inl (unchanged_itself (state tx) is_open);
     };
   }
 
@@ -43,7 +56,7 @@ module _ {T L A : Type 0} {lenders : T → L} {state : T → State} {old new : T
       → (HasCleanDisk (state new) → IsTrue (state old).in_transaction → OnOk result ((count : ℕ) × ExecutesInside 0 s.text params (state old) (state new) (Ok count)))
       → (HasCleanDisk (state new) → IsTrue (state old).in_transaction → IfErr result (FailsToRun s.text params (state old) (state new)))
       → RunsWithin lenders state old new result
-      → ((count : ℕ) → IsOurs (state old) → ExecutesInside 0 s.text s.values (state old) (state new) (Ok count) → Leads (state old) (state new) (s.change (tables_of (state old))))
+      → Makes (state old) (state new) s
       → Writes lenders state old new result s
   runs s storable is ran cause keeps makes = record {
     ok = λ clean inside ours. ok_then result (ran clean inside) (λ done. makes done.0 ours (subst (λ values. ExecutesInside 0 s.text values (state old) (state new) (Ok done.0)) is done.1));
@@ -75,4 +88,31 @@ module _ {T L A : Type 0} {lenders : T → L} {state : T → State} {old new : T
     numbers = λ refused. absurd (refused storable);
     cause = λ _ clean. subst (λ bound. IfErr result (FailsWithRows q.copies q.are_ours q.text bound (state old) (state new))) is (cause clean);
     keeps = plain_reads keeps (λ ours. plain_here (state old) q.text ours plain);
+  }
+
+  -- the same, whatever the query
+  pub asks_where : {storable : Type 0} {text : List ℕ} {given : Row} {width : ℕ} {values : A → List Row} {copies : Type 0} {are_ours : List Row → Type 0} → storable → params ≡ given
+      → (HasCleanDisk (state new) → IfOk result (λ found. ShowsColumns text params (state old) (state new) width (values found)))
+      → (HasCleanDisk (state new) → IfErr result (FailsWithRows copies are_ours text params (state old) (state new)))
+      → AsksWithin lenders state text old new result
+      → AsksWhere lenders state old new result storable text given width values copies are_ours
+  asks_where {text = text} {width = width} {values = values} {copies = copies} {are_ours = are_ours} storable is shown cause keeps = record {
+    shown = λ clean. subst (λ bound. IfOk result (λ found. ShowsColumns text bound (state old) (state new) width (values found))) is (shown clean);
+    numbers = λ refused. absurd (refused storable);
+    cause = λ _ clean. subst (λ bound. IfErr result (FailsWithRows copies are_ours text bound (state old) (state new))) is (cause clean);
+    keeps = keeps;
+  }
+
+-- ---- a query of which is known what was asked
+
+module _ {T L A : Type 0} {lenders : T → L} {state : T → State} {old new : T} {result : Result A StoreFault} where
+  pub asked : (q : Query A) (width : ℕ) {values : A → List Row} → IsPlain (understood our_schema q.text)
+      → AsksWhere lenders state old new result q.storable q.text q.values width values q.copies q.are_ours
+      → ((found : A) → IsOurs (state old) → ShowsColumns q.text q.values (state old) (state new) width (values found) → q.reported (tables_of (state old)) found)
+      → Queries lenders state old new result q
+  asked q width plain done reports = record {
+    ok = λ clean ours. if_then result (done.shown clean) (λ found read. reports found ours read);
+    numbers = done.numbers;
+    cause = done.cause;
+    keeps = plain_reads done.keeps (λ ours. plain_here (state old) q.text ours plain);
   }

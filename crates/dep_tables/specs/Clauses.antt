@@ -1,5 +1,5 @@
 -- What the clauses of the statements say of the states before and after.
-use Rattle.std.specs.Prelude.{◌≡◌, ◌≢◌, ◌⊎◌, ◌≤◌, ⊤, ℕ, List, [], All, IsTrue, Result, Err, OnOk, OnErr, IfOk, IfErr, length, map}
+use Rattle.std.specs.Prelude.{◌≡◌, ◌≢◌, ◌⊎◌, ◌≤◌, ⊤, ℕ, List, [], All, IsTrue, Result, Ok, Err, OnOk, OnErr, IfOk, IfErr, length, map}
 use Rattle.sqlite.specs.Order.{Row}
 use Rattle.sqlite.specs.declared.error.Error.{Error}
 use Rattle.sqlite.specs.State.{State, HasCleanDisk, KeepsCommit, IsUnchanged, IsRolledBack, Survives, ExecutesInside, FailsToQuery, IsTooLate, Shown}
@@ -194,6 +194,12 @@ pub record Query (A : Type 0) : Type 1 where
   -- what the value says of our tables
   pub reported : Tables → A → Type 0
 
+-- what SQLite does of the statement is what it makes of our tables
+abbrev pub Makes : State → State → Statement → Type 0
+Makes old new statement = (count : ℕ) → IsOurs old
+    → ExecutesInside 0 statement.text statement.values old new (Ok count)
+    → Leads old new (statement.change (tables_of old))
+
 module _ {T L A : Type 0} (lenders : T → L) (state : T → State) (old new : T)
     (result : Result A StoreFault) where
   -- what a call does that runs this statement
@@ -203,6 +209,17 @@ module _ {T L A : Type 0} (lenders : T → L) (state : T → State) (old new : T
     pub cause : FailsByRunning (state old) (state new) result statement.storable statement.text
         statement.values
     pub keeps : RunsWithin lenders state old new result
+
+  -- What a call does that asks a query only where its numbers are below 2^63, and reads these columns of the
+  -- rows that it shows.
+  pub record AsksWhere (storable : Type 0) (text : List ℕ) (params : Row) (width : ℕ)
+      (values : A → List Row) (copies : Type 0) (are_ours : List Row → Type 0) : Type 0 where
+    pub shown : HasCleanDisk (state new)
+        → IfOk result (λ found. ShowsColumns text params (state old) (state new) width (values found))
+    pub numbers : RefusesNumbers (state old) (state new) result storable
+    pub cause : storable → HasCleanDisk (state new)
+        → IfErr result (FailsWithRows copies are_ours text params (state old) (state new))
+    pub keeps : AsksWithin lenders state text old new result
 
   -- what a call does that asks this query
   pub record Queries (query : Query A) : Type 0 where

@@ -9,8 +9,9 @@ ghost use Rattle.dep_tables.specs.Statements.{insertion_of_file, deletion_of_fil
 
 use crate::calls::Statements;
 use crate::columns::ColumnKind::{self, Flag, Number, Sha256, Text, TextOrNull};
-use crate::numbers::{LIMIT, flag_at, flag_number, key_param, number, number_at};
-use crate::reading::{FromRow, ask_all, ask_one};
+use crate::keyed::{ask_all_by_key, ask_one_by_key, run_by_key};
+use crate::numbers::{LIMIT, flag_at, flag_number, number, number_at};
+use crate::reading::FromRow;
 use crate::texts::{digest_at, text_at, text_or_null, text_or_null_at, text_value};
 use dep_types::{FileRow, StoreFault};
 use sqlite::Row;
@@ -64,20 +65,14 @@ pub fn insert_file<T: Statements>(tx: &mut T, row: &FileRow) -> Result<(), Store
 pub fn delete_file<T: Statements>(tx: &mut T, file: u64) -> Result<(), StoreFault>
     ensures does { Writes T.lenders T.state tx.old tx.new result (deletion_of_file file) }
 {
-    if file >= LIMIT {
-        return Err(StoreFault::Store);
-    }
-    tx.run("DELETE FROM files WHERE file = ?1", &key_param(file))
+    run_by_key(tx, "DELETE FROM files WHERE file = ?1", file)
 }
 
 /// Deletes the rows of an object. A number of 2^63 or more is a fault of the store.
 pub fn delete_files<T: Statements>(tx: &mut T, object: u64) -> Result<(), StoreFault>
     ensures does { Writes T.lenders T.state tx.old tx.new result (deletion_of_files object) }
 {
-    if object >= LIMIT {
-        return Err(StoreFault::Store);
-    }
-    tx.run("DELETE FROM files WHERE object = ?1", &key_param(object))
+    run_by_key(tx, "DELETE FROM files WHERE object = ?1", object)
 }
 
 impl FromRow for FileRow {
@@ -119,13 +114,10 @@ impl FromRow for FileRow {
 pub fn find_file<T: Statements>(tx: &mut T, file: u64) -> Result<Option<FileRow>, StoreFault>
     ensures does { Queries T.lenders T.state tx.old tx.new result (query_of_file file) }
 {
-    if file >= LIMIT {
-        return Err(StoreFault::Store);
-    }
-    ask_one(
+    ask_one_by_key(
         tx,
         "SELECT file, object, name, media, size, tag, deposited, behalf, by_reference, sha256 FROM files WHERE file = ?1",
-        &key_param(file),
+        file,
     )
 }
 
@@ -138,13 +130,10 @@ pub fn files_of<T: Statements>(
 ) -> Result<Vec<FileRow>, StoreFault>
     ensures does { Queries T.lenders T.state tx.old tx.new result (query_of_files object) }
 {
-    if object >= LIMIT {
-        return Err(StoreFault::Store);
-    }
-    ask_all(
+    ask_all_by_key(
         tx,
         alloc,
         "SELECT file, object, name, media, size, tag, deposited, behalf, by_reference, sha256 FROM files WHERE object = ?1 ORDER BY file",
-        &key_param(object),
+        object,
     )
 }

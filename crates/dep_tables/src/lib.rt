@@ -9,6 +9,7 @@ mod columns;
 mod fault;
 mod files;
 mod format;
+mod keyed;
 mod metadata;
 mod numbers;
 mod objects;

@@ -9,8 +9,9 @@ ghost use Rattle.dep_tables.specs.Statements.{insertion_of_metadata, deletion_of
 
 use crate::calls::Statements;
 use crate::columns::ColumnKind::{self, Number};
-use crate::numbers::{LIMIT, key_param, number, number_at};
-use crate::reading::{FromRow, ask_all};
+use crate::keyed::{ask_all_by_key, run_by_key};
+use crate::numbers::{LIMIT, number, number_at};
+use crate::reading::FromRow;
 use crate::texts::{text_at, text_value};
 use dep_types::{StoreFault, Text};
 use sqlite::Row;
@@ -67,10 +68,7 @@ pub fn insert_metadata<T: Statements>(tx: &mut T, row: &MetadataRow) -> Result<(
 pub fn delete_metadata<T: Statements>(tx: &mut T, object: u64) -> Result<(), StoreFault>
     ensures does { Writes T.lenders T.state tx.old tx.new result (deletion_of_metadata object) }
 {
-    if object >= LIMIT {
-        return Err(StoreFault::Store);
-    }
-    tx.run("DELETE FROM metadata WHERE object = ?1", &key_param(object))
+    run_by_key(tx, "DELETE FROM metadata WHERE object = ?1", object)
 }
 
 impl FromRow for MetadataRow {
@@ -108,13 +106,10 @@ pub fn metadata_of<T: Statements>(
 ) -> Result<Vec<MetadataRow>, StoreFault>
     ensures does { Queries T.lenders T.state tx.old tx.new result (query_of_metadata object) }
 {
-    if object >= LIMIT {
-        return Err(StoreFault::Store);
-    }
-    ask_all(
+    ask_all_by_key(
         tx,
         alloc,
         "SELECT object, name, place, value FROM metadata WHERE object = ?1 ORDER BY name, place",
-        &key_param(object),
+        object,
     )
 }

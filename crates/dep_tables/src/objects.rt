@@ -9,8 +9,9 @@ ghost use Rattle.dep_tables.specs.Statements.{insertion_of_object, update_of_obj
 
 use crate::calls::Statements;
 use crate::columns::ColumnKind::{self, Flag, Number};
-use crate::numbers::{LIMIT, flag_at, flag_number, key_param, number, number_at};
-use crate::reading::{FromRow, ask_one};
+use crate::keyed::{ask_one_by_key, run_by_key};
+use crate::numbers::{LIMIT, flag_at, flag_number, number, number_at};
+use crate::reading::FromRow;
 use dep_types::{ObjectRow, StoreFault};
 use sqlite::Row;
 use sqlite::types::ValueRef;
@@ -71,10 +72,7 @@ pub fn write_object<T: Statements>(tx: &mut T, row: &ObjectRow) -> Result<(), St
 pub fn delete_object<T: Statements>(tx: &mut T, object: u64) -> Result<(), StoreFault>
     ensures does { Writes T.lenders T.state tx.old tx.new result (deletion_of_object object) }
 {
-    if object >= LIMIT {
-        return Err(StoreFault::Store);
-    }
-    tx.run("DELETE FROM objects WHERE object = ?1", &key_param(object))
+    run_by_key(tx, "DELETE FROM objects WHERE object = ?1", object)
 }
 
 impl FromRow for ObjectRow {
@@ -109,13 +107,10 @@ impl FromRow for ObjectRow {
 pub fn find_object<T: Statements>(tx: &mut T, object: u64) -> Result<Option<ObjectRow>, StoreFault>
     ensures does { Queries T.lenders T.state tx.old tx.new result (query_of_object object) }
 {
-    if object >= LIMIT {
-        return Err(StoreFault::Store);
-    }
-    ask_one(
+    ask_one_by_key(
         tx,
         "SELECT object, ingested, object_tag, metadata_tag, files_tag, changed FROM objects WHERE object = ?1",
-        &key_param(object),
+        object,
     )
 }
 
@@ -124,12 +119,9 @@ pub fn find_object<T: Statements>(tx: &mut T, object: u64) -> Result<Option<Obje
 pub fn next_object<T: Statements>(tx: &mut T, after: u64) -> Result<Option<u64>, StoreFault>
     ensures does { Queries T.lenders T.state tx.old tx.new result (query_of_next_object after) }
 {
-    if after >= LIMIT {
-        return Err(StoreFault::Store);
-    }
-    ask_one(
+    ask_one_by_key(
         tx,
         "SELECT object FROM objects WHERE object > ?1 ORDER BY object LIMIT 1",
-        &key_param(after),
+        after,
     )
 }

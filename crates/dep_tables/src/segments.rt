@@ -9,8 +9,9 @@ ghost use Rattle.dep_tables.specs.Statements.{insertion_of_segment, deletion_of_
 
 use crate::calls::Statements;
 use crate::columns::ColumnKind::{self, Number};
-use crate::numbers::{LIMIT, key_param, number, number_at};
-use crate::reading::{FromRow, ask_all};
+use crate::keyed::{ask_all_by_key, run_by_key};
+use crate::numbers::{LIMIT, number, number_at};
+use crate::reading::FromRow;
 use dep_types::StoreFault;
 use sqlite::Row;
 use sqlite::types::ValueRef;
@@ -63,10 +64,7 @@ pub fn insert_segment<T: Statements>(tx: &mut T, row: &SegmentRow) -> Result<(),
 pub fn delete_segments<T: Statements>(tx: &mut T, upload: u64) -> Result<(), StoreFault>
     ensures does { Writes T.lenders T.state tx.old tx.new result (deletion_of_segments upload) }
 {
-    if upload >= LIMIT {
-        return Err(StoreFault::Store);
-    }
-    tx.run("DELETE FROM segments WHERE upload = ?1", &key_param(upload))
+    run_by_key(tx, "DELETE FROM segments WHERE upload = ?1", upload)
 }
 
 impl FromRow for SegmentRow {
@@ -102,13 +100,10 @@ pub fn segments_of<T: Statements>(
 ) -> Result<Vec<SegmentRow>, StoreFault>
     ensures does { Queries T.lenders T.state tx.old tx.new result (query_of_segments upload) }
 {
-    if upload >= LIMIT {
-        return Err(StoreFault::Store);
-    }
-    ask_all(
+    ask_all_by_key(
         tx,
         alloc,
         "SELECT upload, number, size FROM segments WHERE upload = ?1 ORDER BY number",
-        &key_param(upload),
+        upload,
     )
 }

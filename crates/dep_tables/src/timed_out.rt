@@ -6,8 +6,8 @@ ghost use Rattle.dep_tables.specs.Clauses.{Shows, Writes, Queries};
 ghost use Rattle.dep_tables.specs.Statements.{insertion_of_timed_out, query_of_timed_out};
 
 use crate::calls::Statements;
+use crate::keyed::ask_one_by_key;
 use crate::numbers::{LIMIT, key_param};
-use crate::reading::ask_one;
 use dep_types::StoreFault;
 
 /// Adds a number. It is a fault of the store where it is there, and where it is 2^63 or more.
@@ -27,14 +27,7 @@ pub fn insert_timed_out<T: Statements>(tx: &mut T, upload: u64) -> Result<(), St
 fn find_number<T: Statements>(tx: &mut T, upload: u64) -> Result<Option<u64>, StoreFault>
     ensures does { Queries T.lenders T.state tx.old tx.new result (query_of_timed_out is_some upload) }
 {
-    if upload >= LIMIT {
-        return Err(StoreFault::Store);
-    }
-    ask_one(
-        tx,
-        "SELECT upload FROM timed_out WHERE upload = ?1",
-        &key_param(upload),
-    )
+    ask_one_by_key(tx, "SELECT upload FROM timed_out WHERE upload = ?1", upload)
 }
 
 /// Whether the number is there. A number of 2^63 or more is a fault of the store.

@@ -9,8 +9,9 @@ ghost use Rattle.dep_tables.specs.Statements.{insertion_of_upload, update_of_upl
 
 use crate::calls::Statements;
 use crate::columns::ColumnKind::{self, Number, Sha256OrNull};
-use crate::numbers::{LIMIT, key_param, number, number_at};
-use crate::reading::{FromRow, ask_one};
+use crate::keyed::{ask_one_by_key, run_by_key};
+use crate::numbers::{LIMIT, number, number_at};
+use crate::reading::FromRow;
 use crate::texts::{digest_or_null, digest_or_null_at};
 use dep_types::{StoreFault, UploadRow};
 use sqlite::Row;
@@ -114,10 +115,7 @@ pub fn write_upload<T: Statements>(tx: &mut T, row: &UploadColumns) -> Result<()
 pub fn delete_upload<T: Statements>(tx: &mut T, upload: u64) -> Result<(), StoreFault>
     ensures does { Writes T.lenders T.state tx.old tx.new result (deletion_of_upload upload) }
 {
-    if upload >= LIMIT {
-        return Err(StoreFault::Store);
-    }
-    tx.run("DELETE FROM uploads WHERE upload = ?1", &key_param(upload))
+    run_by_key(tx, "DELETE FROM uploads WHERE upload = ?1", upload)
 }
 
 impl FromRow for UploadColumns {
@@ -155,13 +153,10 @@ pub fn find_upload<T: Statements>(
 ) -> Result<Option<UploadColumns>, StoreFault>
     ensures does { Queries T.lenders T.state tx.old tx.new result (query_of_upload upload) }
 {
-    if upload >= LIMIT {
-        return Err(StoreFault::Store);
-    }
-    ask_one(
+    ask_one_by_key(
         tx,
         "SELECT upload, size, count, segment_size, sha256, last FROM uploads WHERE upload = ?1",
-        &key_param(upload),
+        upload,
     )
 }
 
@@ -170,13 +165,10 @@ pub fn find_upload<T: Statements>(
 pub fn next_upload<T: Statements>(tx: &mut T, after: u64) -> Result<Option<u64>, StoreFault>
     ensures does { Queries T.lenders T.state tx.old tx.new result (query_of_next_upload after) }
 {
-    if after >= LIMIT {
-        return Err(StoreFault::Store);
-    }
-    ask_one(
+    ask_one_by_key(
         tx,
         "SELECT upload FROM uploads WHERE upload > ?1 ORDER BY upload LIMIT 1",
-        &key_param(after),
+        after,
     )
 }
 
@@ -209,12 +201,9 @@ impl FromRow for LeftUpload {
 pub fn left_before<T: Statements>(tx: &mut T, moment: u64) -> Result<Option<LeftUpload>, StoreFault>
     ensures does { Queries T.lenders T.state tx.old tx.new result (query_of_left_upload moment) }
 {
-    if moment >= LIMIT {
-        return Err(StoreFault::Store);
-    }
-    ask_one(
+    ask_one_by_key(
         tx,
         "SELECT upload, last FROM uploads WHERE last < ?1 ORDER BY last, upload LIMIT 1",
-        &key_param(moment),
+        moment,
     )
 }
