@@ -39,7 +39,7 @@ closed_more e = cc
 cut_more : next.Cut ≢ More
 cut_more e = cc
 
-open_there : StaysOpen ≢ NoSuch
+pub open_there : StaysOpen ≢ NoSuch
 open_there e = cc
 
 closed_there : Closed ≢ NoSuch
