@@ -25,7 +25,7 @@ pub(crate) fn key_param(key: u64) -> [ValueRef<'static>; 1]
 }
 
 /// The number in this column of a row, from 0 on. Anything else there is a fault of the store.
-pub(crate) fn number_at(row: &Row, at: usize) -> Result<u64, StoreFault>
+pub(crate) fn checked_number_at(row: &Row, at: usize) -> Result<u64, StoreFault>
     ensures reported { IfOk result (λ n. column row.now at ≡ Int (pos n)) }
     ensures refused { IfErr result
         (λ fault. (¬ (HasAt IsNumberValue row.now at)) × (fault ≡ Store)) }

@@ -8,7 +8,7 @@ ghost use Rattle.dep_files.specs.Clauses.{ReportsOver, ReadsOver, FailsOver};
 ghost use Rattle.dep_files.specs.Fixity.{HasFixity, IsAudited, KeepsDamaged, number_if_damaged};
 ghost use Rattle.dep_files.specs.Causes.{FailsToFindFixity, FailsToCheck, FailsToAudit};
 
-use crate::asking::number_at;
+use crate::asking::checked_number_at;
 use crate::hashing::hash_blocks;
 use crate::kept::{digest_at, find_sha512, list_sha256s};
 use crate::watch::Watch;
@@ -53,7 +53,7 @@ fn find_fixity<S: Alter, W: Watch>(
         (FailsToFindFixity row.now) }
     ensures reads { ReadsOver S.Store connection.old connection.new result }
 {
-    let file = number_at(row, 0)?;
+    let file = checked_number_at(row, 0)?;
     let sha512 = find_sha512(connection, BlockOwner::File(file))?;
     let digests = hash_blocks(connection, BlockOwner::File(file), watch)?;
     Ok(FileFixity {

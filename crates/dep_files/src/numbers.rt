@@ -11,7 +11,7 @@ ghost use Rattle.dep_files.specs.Clauses.{ReportsOver, ReadsOver, FailsFor};
 ghost use Rattle.dep_files.specs.Sha512s.{IsFileAfter};
 ghost use Rattle.dep_files.specs.Causes.{FailsToFindFile};
 
-use crate::asking::{ask, key_param, number_at};
+use crate::asking::{ask, checked_number_at, key_param};
 use dep_tables::LIMIT;
 use dep_types::StoreFault;
 use sqlite::{Alter, Connection, Row};
@@ -23,7 +23,7 @@ fn only(rows: &[Row]) -> Result<Option<u64>, StoreFault>
 {
     match rows {
         [] => Ok(None),
-        [row] => Ok(Some(number_at(row, 0)?)),
+        [row] => Ok(Some(checked_number_at(row, 0)?)),
         _ => Err(StoreFault::Store),
     }
 }

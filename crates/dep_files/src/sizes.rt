@@ -10,7 +10,7 @@ ghost use Rattle.dep_files.specs.Clauses.{ReportsOver, ReadsOver, FailsFor};
 ghost use Rattle.dep_files.specs.Sizes.{IsSizeRow, IsSizeOf, size_values};
 ghost use Rattle.dep_files.specs.Causes.{FailsToFindSize};
 
-use crate::asking::{ask, key_param, number_at};
+use crate::asking::{ask, checked_number_at, key_param};
 use dep_tables::LIMIT;
 use dep_types::StoreFault;
 use sqlite::{Alter, Connection, Row};
@@ -29,8 +29,8 @@ fn size_in(row: &Row) -> Result<FileSize, StoreFault>
     ensures refused { IfErr result (λ fault. (¬ (IsSizeRow row.now)) × (fault ≡ Store)) }
 {
     Ok(FileSize {
-        object: number_at(row, 0)?,
-        size: number_at(row, 1)?,
+        object: checked_number_at(row, 0)?,
+        size: checked_number_at(row, 1)?,
     })
 }
 

@@ -39,13 +39,6 @@ impl<T> List<T> {
     {
         self.values.as_slice()
     }
-
-    /// Hands the values over without a copy.
-    pub fn into_vec(self) -> Vec<T>
-        ensures { result.items ≡ self }
-    {
-        self.values
-    }
 }
 
 impl<T: Drop> List<T> {
