@@ -7,3 +7,4 @@ pub mod Transactions
 pub mod Prepared
 pub mod Transacting
 pub mod Upgraded
+mod Performed

@@ -6,6 +6,7 @@ mod committing;
 mod crashes;
 mod lending;
 mod opening;
+mod performing;
 mod probing;
 mod upgrading;
 
@@ -13,5 +14,6 @@ pub use committing::{commit, give_back};
 pub use crashes::{began_open, settled};
 pub use lending::Lent;
 pub use opening::{OpenFault, Schema, open};
+pub use performing::perform_request;
 pub use probing::{check_open, probe};
 pub use upgrading::upgrade;

@@ -16,7 +16,7 @@ use Rattle.dep_staging.specs.HashedAhead.{AreRunning, IsRunning}
 use Rattle.dep_staging.specs.declared.running.RunningHash.{RunningHash}
 use Rattle.dep_staging.specs.declared.running.RunningHashes.{RunningHashes}
 use Rattle.dep_staging.proofs.AheadLemmas.{still_hashed}
-use Rattle.dep_performing.specs.Performing.{KeepsRunning}
+use Rattle.dep_schema.specs.Performing.{KeepsRunning}
 use Rattle.dep_schema.specs.States.{Represents}
 use Rattle.dep_types.specs.Conditions.{Condition, Represents as RepresentsAs, HasCleanDisk}
 use Rattle.dep_exchange.specs.Archives.{TriesTo, Always, KeepsState, KeepsAll, KeepsEachState, FailsIfShut}

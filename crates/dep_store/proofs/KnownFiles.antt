@@ -22,7 +22,7 @@ use Rattle.dep_answers.specs.declared.performed.Performed.{Performed}
 use Rattle.dep_answers.specs.declared.performed.StoredFile.{StoredFile}
 use Rattle.dep_requests.specs.declared.performing.Done.{Done}
 use Rattle.dep_staging.specs.declared.running.RunningHashes.{RunningHashes}
-use Rattle.dep_performing.specs.Performing.{KeepsRunning, StepsAlone, StepsOver, ReportsChanges, IsBackUnchanged}
+use Rattle.dep_schema.specs.Performing.{KeepsRunning, StepsAlone, StepsOver, ReportsChanges, IsBackUnchanged}
 use Rattle.dep_schema.specs.States.{Represents}
 use Rattle.dep_schema.specs.Transactions.{FindsOpen, Transacts}
 use Rattle.dep_schema.proofs.Transacting.{IsSettled, after_back, given_back_then}

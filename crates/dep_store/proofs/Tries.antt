@@ -20,7 +20,7 @@ use Rattle.dep_schema.proofs.Transacting.{IsSettled, IsOver, ok_over_states, err
 use Rattle.dep_exchange.specs.Archives.{TriesTo, Ticks, Reports, KeepsState, KeepsAll, Always, CountsFailures}
 use Rattle.dep_store.specs.Archive.{shown_by}
 use Rattle.dep_store.specs.Shut.{FailsIfShut, SendsFile}
-use Rattle.dep_performing.specs.Performing.{KeepsRunning}
+use Rattle.dep_schema.specs.Performing.{KeepsRunning}
 use Rattle.dep_store.specs.Staying.{ReportsTables, KeepsTables, LeavesOnly, HashesOn}
 use Rattle.dep_store.proofs.ShutLemmas.{state_back}
 

@@ -7,7 +7,7 @@ use Rattle.dep_tables.specs.Tables.{Tables}
 use Rattle.dep_exchange.specs.Archives.{KeepsAll}
 use Rattle.dep_staging.specs.declared.running.RunningHashes.{RunningHashes}
 use Rattle.dep_schema.specs.OpenTables.{Holds, StaysFile}
-use Rattle.dep_performing.specs.Performing.{KeepsRunning}
+use Rattle.dep_schema.specs.Performing.{KeepsRunning}
 use Rattle.dep_schema.specs.States.{Represents, Leaves}
 use Rattle.dep_store.specs.Archive.{shown_by}
 

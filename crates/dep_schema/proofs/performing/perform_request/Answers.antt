@@ -4,10 +4,10 @@ use Rattle.sqlite.proofs.StateLemmas.{clean_if_open}
 use Rattle.dep_schema.proofs.Transacting.{gave_up, none_then, on_connection, still_on, works_on}
 use Rattle.dep_staging.specs.declared.running.RunningHashes.{RunningHashes}
 use Rattle.dep_requests.specs.Performing.{IsDone}
-use Rattle.dep_performing.proofs.Performed.{IsPerformed, by_commit, by_rollback, keeps_running, transacts_alone, worked_on}
+use Rattle.dep_schema.proofs.Performed.{IsPerformed, by_commit, by_rollback, keeps_running, transacts_alone, worked_on}
 use Rattle.sqlite.specs.State.{Survives}
 use Rattle.sqlite.specs.Held.{Held, state}
-use Rattle.dep_performing.proofs.performing.perform_request.Goals as goal
+use Rattle.dep_schema.proofs.performing.perform_request.Goals as goal
 
 -- where it failed, nothing is said of an Ok
 pub returns-in_err-performed : goal.returns-in_err-performed

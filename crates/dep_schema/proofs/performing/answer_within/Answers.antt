@@ -8,8 +8,8 @@ use Rattle.dep_requests.specs.Performing.{IsDone, KeepsRunning}
 use Rattle.dep_requests.specs.declared.performing.Done.{Done}
 use Rattle.dep_schema.specs.OpenTables.{StaysOn}
 use Rattle.dep_schema.proofs.Asking.{lent_name, stays_on}
-use Rattle.dep_performing.proofs.Performed.{done_with}
-use Rattle.dep_performing.proofs.performing.answer_within.Goals as goal
+use Rattle.dep_schema.proofs.Performed.{done_with}
+use Rattle.dep_schema.proofs.performing.answer_within.Goals as goal
 
 -- it needs nothing that was hashed
 pub returns-then-is_plain_read : goal.returns-then-is_plain_read

@@ -6,13 +6,15 @@ ghost use Rattle.dep_requests.specs.Performing.{IsDone};
 ghost use Rattle.dep_requests.specs.Performing as within;
 ghost use Rattle.dep_requests.specs.Caching.{is_plain_read};
 ghost use Rattle.dep_schema.specs.OpenTables.{StaysOn};
-ghost use Rattle.dep_performing.specs.Performing.{IsDoneAlone, KeepsRunning, StepsAlone, StepsOver, ReportsChanges, IsBackUnchanged};
+ghost use Rattle.dep_schema.specs.Performing.{IsDoneAlone, KeepsRunning, StepsAlone, StepsOver, ReportsChanges, IsBackUnchanged};
 ghost use Rattle.dep_schema.specs.Transactions.{Transacts};
 
+use crate::committing::{commit, give_back};
+use crate::lending::Lent;
+use crate::probing::check_open;
 use dep_answers::Service;
 use dep_decisions::Operation;
 use dep_requests::{Done, answer_operation, is_plain_read};
-use dep_schema::{Lent, check_open, commit, give_back};
 use dep_staging::RunningHashes;
 use dep_types::StoreFault;
 use sqlite::{Alter, Connection, Transaction};
