@@ -57,7 +57,3 @@ returns g c =
       left = end.left;
       crash = crash_committing g.S.Store old inside new work _ same _ c.commit.ensures.survives (λ clean. worked.free clean refl);
     }
-
--- (a wrong body is refused here at once)
-pub transaction-tx-requires : goal.transaction-tx-requires
-transaction-tx-requires g c = c.requires.settled
