@@ -1,6 +1,7 @@
 //! The manifest of an object's files (RFC 8493, section 2.1.3).
-ghost use Rattle.std.specs.Prelude.{[]};
+ghost use Rattle.std.specs.Prelude.{[], OnOk};
 ghost use Rattle.dep_docs_out.specs.Made.{Makes};
+ghost use Rattle.dep_manifest.specs.Growing.{Grows};
 ghost use Rattle.dep_manifest.specs.Manifest.{manifest};
 ghost use Rattle.dep_manifest.specs.Reported.{row_checksums, reported_manifest};
 ghost use Rattle.dep_manifest.specs.declared.algorithm.Algorithm.TheVariants.{Sha256, Sha512};
@@ -22,36 +23,42 @@ pub fn payload_manifest(
     ensures { Makes result (reported_manifest algorithm view.now) }
 {
     let rows = view.files.as_slice();
-    match algorithm {
-        Algorithm::Sha256 => sha256_lines(alloc, rows),
-        Algorithm::Sha512 => sha512_lines(alloc, rows, view.sha512s.as_slice()),
-    }
-}
-
-fn sha256_lines(alloc: Global, rows: &[FileRow]) -> Result<Vec<u8>, AllocError>
-    ensures { Makes result (manifest (row_checksums Sha256 rows.now [])) }
-{
     let mut text = Vec::new(alloc);
-    for row in rows {
-        let path = payload_path(alloc, row)?;
-        add_line(&mut text, path.as_str().as_bytes(), &to_hex(&row.sha256))?;
+    match algorithm {
+        Algorithm::Sha256 => add_sha256_lines(alloc, &mut text, rows)?,
+        Algorithm::Sha512 => add_sha512_lines(alloc, &mut text, rows, view.sha512s.as_slice())?,
     }
     Ok(text)
+}
+
+fn add_sha256_lines(alloc: Global, text: &mut Vec<u8>, rows: &[FileRow]) -> Result<(), AllocError>
+    ensures { OnOk result (Grows text.old text.new (manifest (row_checksums Sha256 rows.now []))) }
+{
+    for row in rows {
+        let path = payload_path(alloc, row)?;
+        add_line(text, path.as_str().as_bytes(), &to_hex(&row.sha256))?;
+    }
+    Ok(())
 }
 
 // Each file's value stands at its place.
-fn sha512_lines(alloc: Global, rows: &[FileRow], values: &[[u8; 64]]) -> Result<Vec<u8>, AllocError>
-    ensures { Makes result (manifest (row_checksums Sha512 rows.now values.now)) }
+fn add_sha512_lines(
+    alloc: Global,
+    text: &mut Vec<u8>,
+    rows: &[FileRow],
+    values: &[[u8; 64]],
+) -> Result<(), AllocError>
+    ensures { OnOk result (Grows text.old text.new
+        (manifest (row_checksums Sha512 rows.now values.now))) }
 {
-    let mut text = Vec::new(alloc);
     let mut left = values;
     for row in rows {
         let Some((value, more)) = left.split_first() else {
-            return Ok(text);
+            return Ok(());
         };
         let path = payload_path(alloc, row)?;
-        add_line(&mut text, path.as_str().as_bytes(), &to_hex512(value))?;
+        add_line(text, path.as_str().as_bytes(), &to_hex512(value))?;
         left = more;
     }
-    Ok(text)
+    Ok(())
 }

@@ -4,6 +4,7 @@ use Rattle.std.proofs.lemmas.List.{take_more}
 use Rattle.std.proofs.lemmas.List.Elements.{filter_map-append}
 use Rattle.std.specs.Prelude.{IfSome}
 use Rattle.std.specs.List.{cons_option}
+use Rattle.std.specs.Option.{option_or}
 use Rattle.dep_types.specs.Maps.{first_of}
 use Rattle.dep_types.specs.declared.config.Config.{Config}
 use Rattle.dep_types.specs.declared.refusal.Refusal.{Refusal}
@@ -40,6 +41,12 @@ pub content_reported : (config : Config) (view : View) (op : Operation) (fields 
     → content_by config (in_view view) op ≡ first_of (fields ∷ digest ∷ document ∷ size ∷ [])
 unfolding content_by
 content_reported config view op fields digest document size a b c d = (λ i. first_of (sym a i ∷ sym b i ∷ sym c i ∷ sym d i ∷ []))
+
+-- the document is judged before the size
+pub document_first : (document size : Option Refusal) → first_of (None ∷ None ∷ document ∷ size ∷ []) ≡ option_or document size
+document_first None None = refl
+document_first None (Some r) = refl
+document_first (Some r) size = refl
 
 -- a method with a content is checked by its rules
 pub checked_by : (config : Config) (view : View) (op : Operation) (checked : Checked) → has_content op.target.method ≡ true → IsCheckedBy config view op checked → IsChecked config view op checked

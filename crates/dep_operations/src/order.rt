@@ -138,12 +138,10 @@ fn check_content(
     if let Some(refusal) = mismatch {
         return Ok(Checked::Refused(refusal));
     }
+    let misfit = size_rule(config, view, operation, purpose);
     let metadata = metadata_of(alloc, operation, purpose)?;
-    if let Some(refusal) = document_rule(alloc, view, operation, purpose, metadata.is_some())? {
-        drop(metadata);
-        return Ok(Checked::Refused(refusal));
-    }
-    if let Some(refusal) = size_rule(config, view, operation, purpose) {
+    let fault = document_rule(alloc, view, operation, purpose, metadata.is_some())?;
+    if let Some(refusal) = fault.or(misfit) {
         drop(metadata);
         return Ok(Checked::Refused(refusal));
     }

@@ -2,7 +2,7 @@
 ghost use Rattle.std.specs.Prelude.{◌≡◌, IfOk, Some};
 ghost use Rattle.std.specs.List.{list_any};
 ghost use Rattle.std.specs.Option.{option_copied};
-ghost use Rattle.dep_decisions.specs.Rules.{digests_refusal, each, entries_refusal, length_refusal, missing_refusal, references_refusal, occurs_twice, whole_refusal};
+ghost use Rattle.dep_decisions.specs.Rules.{digests_refusal, each, entries_refusal, length_refusal, missing_refusal, references_refusal, occurs_twice};
 ghost use Rattle.dep_operations.specs.Rules.{is_other_packaging, points_elsewhere, rule_of, segments_refusal};
 ghost use Rattle.dep_operations.specs.Seen.{entries_seen, entry_seen, in_view, is_timed_out, known_live, live_in, promised_in};
 ghost use Rattle.dep_operations.specs.Views.{uploads_named};
@@ -149,7 +149,7 @@ fn upload_rule(rule: UploadRule, reference: &Reference, state: &UploadState) -> 
 {
     match rule {
         UploadRule::IsThere => state_rule(state),
-        UploadRule::IsWhole => whole_rule(reference, state),
+        UploadRule::IsWhole => segments_rule(state),
         UploadRule::HasLength => length_rule(reference, state),
         UploadRule::HasDigests => digest_rule(reference, state),
     }
@@ -164,12 +164,6 @@ pub fn state_rule(state: &UploadState) -> Option<Refusal>
         UploadState::TimedOut => Some(Refusal::SegmentedUploadTimedOut),
         UploadState::Live(_) => None,
     }
-}
-
-fn whole_rule(_reference: &Reference, state: &UploadState) -> Option<Refusal>
-    ensures { result ≡ whole_refusal known_live (entry_seen _reference.now state.now) }
-{
-    segments_rule(state)
 }
 
 /// What a reference to an upload is refused for that is there, and lacks a segment.

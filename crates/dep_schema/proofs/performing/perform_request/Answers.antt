@@ -1,4 +1,4 @@
-use Rattle.std.proofs.Common.{not, ◌≡◌, ◌∙◌, refl, sym, ap, subst}
+use Rattle.std.proofs.Common.{rules, not, ◌≡◌, ◌∙◌, refl, sym, ap, subst}
 use Rattle.std.proofs.lemmas.Result.{IfOk-from_err}
 use Rattle.sqlite.proofs.StateLemmas.{clean_if_open}
 use Rattle.dep_schema.proofs.Transacting.{gave_up, none_then, on_connection, still_on, works_on}
@@ -81,3 +81,7 @@ returns g c =
           (none_then (state g.S.Store inside) (state g.S.Store mid) (state g.S.Store new) c.give_back.ensures.survives later) (clean_if_open (g.S.Store.view new.store) (g.met.S.Store.shut_if_dirty new.store)) new refl;
       back = it.back;
     }
+
+-- (a wrong body is refused here by one search)
+pub check_open-requires : goal.check_open-requires
+check_open-requires g c = search rules

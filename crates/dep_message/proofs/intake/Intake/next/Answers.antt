@@ -1,4 +1,5 @@
-use Rattle.std.proofs.Common.{rules, subst}
+use Rattle.std.proofs.Common.{rules, subst, arith}
+use Rattle.std.proofs.lemmas.Grind.{common_steps}
 use Rattle.std.proofs.lemmas.Result.{err_from_is_err_and}
 use Rattle.dep_message.specs.Giving.{HasFirstHead}
 use Rattle.dep_message.specs.Places.{HasBytes}
@@ -20,3 +21,6 @@ returns-in-Some-Continue c = search rules
 
 pub returns-in-Some-Fault : goal.returns-in-Some-Fault
 returns-in-Some-Fault c = search rules
+
+pub returns-after-is_last : goal.returns-after-is_last
+returns-after-is_last c = (record { first = search rules; limit = search rules; dead = search rules; less = grind (arith, common_steps) }, search rules)
