@@ -199,7 +199,7 @@ fn host_database<S: Alter, R: Source + Drop, K: Sink + Drop, P: Spool + Drop, E:
                 &mut log,
             );
             log.rest();
-            (outcome, archive.into_archive().into_store().close())
+            (outcome, archive.into_archive().close())
         }
         Err((fault, connection)) => {
             let _ = eprintln!(rt; "swordd_host: {fault}");

@@ -50,7 +50,7 @@ pub fn open_reserved_hub<S: Alter, R: Reserve + Drop>(
             match Hub::new(alloc, config, archive) {
                 Ok(hub) => Ok(hub),
                 Err((fault, archive)) => {
-                    let connection = archive.into_archive().into_store().close();
+                    let connection = archive.into_archive().close();
                     Err((StartFault::Hub(fault), connection))
                 }
             }

@@ -125,7 +125,7 @@ pub fn open_hub<S: Alter, W: Watch>(
     match Store::open(alloc, connection, watch) {
         Ok(store) => match Hub::new(alloc, config, HashingStore::new(alloc, store)) {
             Ok(hub) => Ok(hub),
-            Err((fault, archive)) => Err((StartFault::Hub(fault), archive.into_store().close())),
+            Err((fault, archive)) => Err((StartFault::Hub(fault), archive.close())),
         },
         Err((fault, connection)) => {
             drop(config);
@@ -139,5 +139,5 @@ pub fn open_hub<S: Alter, W: Watch>(
 pub fn close_hub<S: Alter>(hub: Hub<HashingStore<S>>) -> Connection<S>
     ensures { result ≡ hub.store.store }
 {
-    hub.into_store().into_store().close()
+    hub.into_store().close()
 }

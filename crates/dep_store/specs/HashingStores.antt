@@ -1,12 +1,11 @@
 -- How a store that hashes segments ahead stands, as those who serve it see it.
-use Rattle.std.specs.Prelude.{◌≡◌, Bool, Option, None, is_some, IsTrue}
+use Rattle.std.specs.Prelude.{Bool, None}
 use Rattle.sqlite.specs.State as db
 use Rattle.sqlite.specs.Held.{state}
 use Rattle.sqlite.specs.Tree.{Trees}
 use Rattle.sqlite_trees.specs.declared.store.Store.{Ghosts}
 use Rattle.dep_types.specs.Conditions.{Condition}
 use Rattle.dep_types.specs.State.{State}
-use Rattle.dep_types.specs.declared.refusal.Refusal.{Refusal}
 use Rattle.dep_staging.specs.HashedAhead.{AreRunning}
 use Rattle.dep_staging.specs.declared.running.RunningHashes.{RunningHashes}
 use Rattle.dep_schema.specs.States.{Represents, IsLeftAs}
@@ -35,14 +34,6 @@ shown_by d running = record {
 -- how the store stands, with what was hashed
 abbrev pub condition_of : {S : Type 0} → (g : Ghosts S) → HashingStore S → Condition
 condition_of g archive = shown_by (state g archive.store) archive.running
-
--- what was hashed is what was received, as it was before, and the store and the copy of its log stay; of a request
--- that was refused nothing is noted
-pub record NotesUpload {S : Type 0} (old new : HashingStore S) (refusal : Option Refusal) : Type 0 where
-  pub running : (s : State) → AreRunning s old.running → AreRunning s new.running
-  pub store : new.store ≡ old.store
-  pub log_copy : new.log_copy ≡ old.log_copy
-  pub refused : IsTrue (is_some refusal) → new ≡ old
 
 -- what its database says of its answers: it shows nothing of what it is asked for
 abbrev pub reported_by : db.State → CallLog

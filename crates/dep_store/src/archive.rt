@@ -1,7 +1,7 @@
 //! A store as an archive, which hashes the segments of uploads before a deposit names them, and has a long log copied
 //! before the next commit.
 
-ghost use Rattle.std.specs.Prelude.{◌≡◌, false};
+ghost use Rattle.std.specs.Prelude.{◌≡◌, false, is_some, IsTrue};
 ghost use Rattle.sqlite.proofs.StateLemmas.{clean_if_open};
 ghost use Rattle.sqlite.specs.Held.{state};
 ghost use Rattle.dep_types.specs.State.{State};
@@ -9,7 +9,7 @@ ghost use Rattle.dep_staging.specs.HashedAhead.{AreRunning};
 ghost use Rattle.dep_schema.proofs.Transacting.{leaves_as_was};
 ghost use Rattle.dep_exchange.specs.ArchiveCalls.{Runs, WorkedAhead};
 ghost use Rattle.dep_exchange.specs.Archives.{CommitsIfDue, KeepsEachState};
-ghost use Rattle.dep_store.specs.HashingStores.{NotesUpload, call_log_of, condition_of, may_commit};
+ghost use Rattle.dep_store.specs.HashingStores.{call_log_of, condition_of, may_commit};
 ghost use Rattle.dep_store.specs.LogCopies.{after_call};
 ghost use Rattle.dep_store.specs.Staying.{HashesOn};
 
@@ -21,7 +21,7 @@ use dep_exchange::{Archive, Rest};
 use dep_moment::Moment;
 use dep_staging::RunningHashes;
 use dep_types::{Config, Method, Outlet, Resource, StoreFault, StreamFault};
-use sqlite::Alter;
+use sqlite::{Alter, Connection};
 use std::alloc::Global;
 
 /// A store, with how far uploads were hashed.
@@ -54,11 +54,11 @@ impl<S: Alter> HashingStore<S> {
         &mut self.store
     }
 
-    /// Hands back the store.
-    pub fn into_store(self) -> Store<S>
+    /// Gives the connection of the store back.
+    pub fn close(self) -> Connection<S>
         ensures { result ≡ self.store }
     {
-        self.store
+        self.store.close()
     }
 
     /// Hashes a part of what the request that waits needs, or, where none does, of an upload that one may name later. Returns
@@ -80,21 +80,26 @@ impl<S: Alter> HashingStore<S> {
         self.is_due = matches!(self.store.hash_ahead(&mut self.running), Ok(true));
         self.is_due
     }
+}
 
-    /// Notes the upload to which the request sent a segment, if it sent one that was kept.
-    fn note(&mut self, operation: &Operation<'_>, performed: &Performed)
-        ensures { NotesUpload self.old self.new performed.now.refusal }
-    {
-        if performed.refusal.is_some() {
-            return;
+/// Notes the upload to which the request sent a segment, if it sent one that was kept. Returns whether it did.
+fn note_segment(
+    running: &mut RunningHashes,
+    operation: &Operation<'_>,
+    performed: &Performed,
+) -> bool
+    ensures running { (s : State) → AreRunning s running.old → AreRunning s running.new }
+    ensures refused { IsTrue (is_some performed.now.refusal) → running.new ≡ running.old }
+{
+    if performed.refusal.is_some() {
+        return false;
+    }
+    match (operation.target.method, &operation.target.resource) {
+        (Method::Post, Resource::Upload(upload)) => {
+            running.note(*upload);
+            true
         }
-        if let (Method::Post, Resource::Upload(upload)) = (
-            operation.target.method,
-            &operation.target.resource,
-        ) {
-            self.running.note(*upload);
-            self.is_due = true;
-        }
+        _ => false,
     }
 }
 
@@ -116,7 +121,7 @@ impl<S: Alter> Archive for HashingStore<S> {
         operation: &Operation<'_>,
     ) -> Result<Performed, StoreFault> {
         let performed = self.store.perform(&mut self.running, service, operation)?;
-        self.note(operation, &performed);
+        self.is_due |= note_segment(&mut self.running, operation, &performed);
         self.log_copy.note(operation, &performed);
         Ok(performed)
     }

@@ -11,7 +11,7 @@ returns-in-Ok g c = record {
       (λ h is_open trees may. g.met.S.Store.settled h.store trees is_open may) c.args.connection c.args.config c.in-Ok.hub
       c.in-Ok.ensures.opened
       g.R.Source.unread g.K.Sink.taken g.P.Spool.held g.P.Spool.size (causes_of g.R.Source.halts g.K.Sink.halts g.P.Spool.failures)
-      c.serve_hub-outcome.result.1 c.close.result c.serve_hub-outcome.ensures.ends.0 c.serve_hub-outcome.result.0 (c.close.ensures ∙ c.into_store.ensures ∙ ap (λ (a : HashingStore _). a.store) c.into_archive.ensures) c.host_limits.ensures
+      c.serve_hub-outcome.result.1 c.close.result c.serve_hub-outcome.ensures.ends.0 c.serve_hub-outcome.result.0 (c.close.ensures ∙ ap (λ (a : HashingStore _). a.store) c.into_archive.ensures) c.host_limits.ensures
       c.serve_hub-outcome.ensures.ends.1 c.serve_hub-outcome.ensures.ends.2;
 }
 

@@ -75,7 +75,7 @@ returns-in-Err-new-clause-kept g c said = inr (
   λ honest.
       let did = c.in-Ok.ensures in
       let whole = c.into_archive.ensures ∙ ap (λ (a : ReservedArchive (HashingStore _) _). a.archive) c.in-Err-new.ensures.store ∙ c.new-archive.ensures.archive in
-      let same = c.close-connection.ensures ∙ c.into_store.ensures ∙ ap (λ (a : HashingStore _). a.store) whole ∙ c.new.ensures.store in
+      let same = c.close-connection.ensures ∙ ap (λ (a : HashingStore _). a.store) whole ∙ c.new.ensures.store in
       let is_honest = subst (λ (h : Held _). HasCleanDisk (state g.S.Store h)) same honest in (
         λ none. subst (λ (h : Held _). Represents (state g.S.Store h) empty_state) (sym same) (did.fresh is_honest none),
         λ found left. subst (λ (h : Held _). Represents (state g.S.Store h) found) (sym same) (did.found is_honest found left),
@@ -86,7 +86,7 @@ pub returns-in-Err-new-clause-stop : goal.returns-in-Err-new-clause-stop
 returns-in-Err-new-clause-stop g c =
     let old = state g.S.Store c.args.connection in
     let whole = c.into_archive.ensures ∙ ap (λ (a : ReservedArchive (HashingStore _) _). a.archive) c.in-Err-new.ensures.store ∙ c.new-archive.ensures.archive in
-    let same = c.close-connection.ensures ∙ c.into_store.ensures ∙ ap (λ (a : HashingStore _). a.store) whole ∙ c.new.ensures.store in
+    let same = c.close-connection.ensures ∙ ap (λ (a : HashingStore _). a.store) whole ∙ c.new.ensures.store in
     opening_leaves c.args.config old (state g.S.Store c.close-connection.result) (subst (λ (h : Held _). OpenLeaves old (state g.S.Store h)) (sym same) c.in-Ok.ensures.stop)
 
 pub returns-in-Err-open-clause-refused : goal.returns-in-Err-open-clause-refused

@@ -81,7 +81,7 @@ returns-in-Err-new g c =
     let did = c.in-Ok.ensures in
     let refused = c.in-Err-new.ensures in
     let checked : IsChecked c.args.config = search rules in
-    let same = c.close.ensures ∙ c.into_store.ensures ∙ ap (λ (a : HashingStore _). a.store) refused.store ∙ c.new.ensures.store in
+    let same = c.close.ensures ∙ ap (λ (a : HashingStore _). a.store) refused.store ∙ c.new.ensures.store in
     record {
       fresh = tt;
       again = tt;

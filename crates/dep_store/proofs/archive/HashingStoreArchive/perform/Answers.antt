@@ -38,25 +38,23 @@ returns-in_err-performed-clause-shut g c =
 pub returns-clause-does : goal.returns-clause-does
 returns-clause-does g c =
     let runs = c.args.self.now.running in
-    let later = c.note.new.self.running in
+    let later = c.note_segment.new.running in
     let config = c.args.service.now in
     let op = c.args.operation.now in
     let old = state g.S.Store c.args.self.now.store in
     let done : Result Performed StoreFault = Ok c.in_ok-performed.performed in
-    subst (λ (h : Held _). MakesStep (shown_by old runs) (shown_by (state g.S.Store h) later) (λ s. AreFit op.fields) (λ s. operation_step config s op) done) (sym c.note.ensures.store)
-    (tries_hashed old (state g.S.Store c.perform.new.self) runs later _ (λ s. AreFit op.fields) (λ s p. IsReady (operation_step config s op) p) (λ s. (operation_step config s op).state) done
-    (λ s fit are. (fit, are)) (λ is_open s represents are. c.note.ensures.running s (c.in_ok-performed.ensures.running is_open s represents are))
+    tries_hashed old (state g.S.Store c.perform.new.self) runs later _ (λ s. AreFit op.fields) (λ s p. IsReady (operation_step config s op) p) (λ s. (operation_step config s op).state) done
+    (λ s fit are. (fit, are)) (λ is_open s represents are. c.note_segment.ensures.running s (c.in_ok-performed.ensures.running is_open s represents are))
     (λ s are. are_running_still s (operation_step config s op).state later (step_keeps_segments config s op) are)
-    c.in_ok-performed.ensures.does)
+    c.in_ok-performed.ensures.does
 
 pub returns-clause-shut : goal.returns-clause-shut
 returns-clause-shut g c =
     let runs = c.args.self.now.running in
-    let later = c.note.new.self.running in
+    let later = c.note_segment.new.running in
     let old = state g.S.Store c.args.self.now.store in
     let done : Result Performed StoreFault = Ok c.in_ok-performed.performed in
-    subst (λ (h : Held _). FailsIfShut (shown_by old runs) (shown_by (state g.S.Store h) later) done) (sym c.note.ensures.store)
-    (shut_hashed old (state g.S.Store c.perform.new.self) runs later done c.in_ok-performed.ensures.shut)
+    shut_hashed old (state g.S.Store c.perform.new.self) runs later done c.in_ok-performed.ensures.shut
 
 -- what was due stays due
 pub returns-in_err-performed-clause-commits : goal.returns-in_err-performed-clause-commits
@@ -66,5 +64,4 @@ pub returns-clause-commits : goal.returns-clause-commits
 returns-clause-commits g c =
     let op = c.args.operation.now in
     let done : Result Performed StoreFault = Ok c.in_ok-performed.performed in
-    subst (λ (l : LogCopy). FallsDue (has_call l) (has_call c.note-2.new.self) op done) c.note.ensures.log_copy
-    (note_falls_due StoreFault op c.in_ok-performed.performed _ _ c.note-2.ensures)
+    note_falls_due StoreFault op c.in_ok-performed.performed _ _ c.note.ensures
