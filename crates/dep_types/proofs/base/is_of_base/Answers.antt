@@ -1,7 +1,6 @@
 use Rattle.std.proofs.Common.{◌≡◌, ◌∙◌, List, ℕ, sym, rules, refl, Bool, true, nat_eq, codes}
 use Rattle.std.specs.Cmp.Lexicographic.{pointwise}
 use Rattle.std.proofs.lemmas.List.{same_from_push}
-use Rattle.url.specs.Parts.{serialize}
 use Rattle.dep_types.proofs.base.is_of_base.Goals as goal
 
 -- what a test of two texts reports
