@@ -46,7 +46,6 @@ impl SwordFields {
     {
         let on_behalf_of = behalf(alloc, single(head, "On-Behalf-Of"))?;
         let disposition = disposition(alloc, single(head, "Content-Disposition"))?;
-        let content_type = media(alloc, single(head, "Content-Type"))?;
         let digest = digest(alloc, head)?;
         let copies = copied_fields(alloc, head)?;
         Ok(SwordFields {
@@ -55,19 +54,20 @@ impl SwordFields {
             in_progress: progress(single(head, "In-Progress")),
             packaging: copies.packaging,
             metadata_format: copies.metadata_format,
-            content_type,
+            content_type: copies.content_type,
             content_encoding: copies.content_encoding,
             digest,
         })
     }
 }
 
-// The fields whose texts may be any.
+// The fields that are copied as they stand.
 #[derive(Drop)]
 struct Copies {
     packaging: Field<Octets>,
     metadata_format: Field<Octets>,
     content_encoding: Field<Octets>,
+    content_type: Field<Text>,
 }
 
 fn copied_fields(alloc: Global, head: &Head) -> Result<Copies, AllocError>
@@ -78,6 +78,7 @@ fn copied_fields(alloc: Global, head: &Head) -> Result<Copies, AllocError>
         packaging: copied(alloc, single(head, "Packaging"))?,
         metadata_format: copied(alloc, single(head, "Metadata-Format"))?,
         content_encoding: copied(alloc, single(head, "Content-Encoding"))?,
+        content_type: media(alloc, single(head, "Content-Type"))?,
     })
 }
 
