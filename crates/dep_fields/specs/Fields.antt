@@ -9,7 +9,6 @@ use Rattle.dep_fields.specs.Values.{HasValue, IsReadFrom, joined, read_from, sin
 use Rattle.dep_fields.specs.declared.field.Field.{Field}
 use Rattle.dep_fields.specs.declared.field.Field.TheVariants.{Bad}
 use Rattle.dep_fields.specs.declared.fields.SwordFields.{SwordFields}
-use Rattle.dep_fields.specs.declared.fields.Copies.{Copies}
 
 -- a text that names someone
 abbrev pub is_behalf : List ℕ → Bool
@@ -38,16 +37,6 @@ pub record AreFields (fields : List (List ℕ × List ℕ)) (reported : SwordFie
   pub content_encoding : reported.content_encoding
       ≡ read_from as_it_stands (field_in fields (codes "Content-Encoding"))
   pub digest : reported.digest ≡ read_from digest_field (joined (values_of fields (codes "Digest")))
-
--- what the fields say that are copied as they stand
-pub record AreCopies (fields : List (List ℕ × List ℕ)) (copies : Copies) : Type 0 where
-  pub packaging : copies.packaging ≡ read_from as_it_stands (field_in fields (codes "Packaging"))
-  pub metadata_format : copies.metadata_format
-      ≡ read_from as_it_stands (field_in fields (codes "Metadata-Format"))
-  pub content_encoding : copies.content_encoding
-      ≡ read_from as_it_stands (field_in fields (codes "Content-Encoding"))
-  pub content_type : copies.content_type
-      ≡ read_from (if_passes is_media) (field_in fields (codes "Content-Type"))
 
 -- a text that is copied stands in the head: a value, a disposition, or digests in more than one field
 pub data IsCopied (fields : List (List ℕ × List ℕ)) : Type 0 where

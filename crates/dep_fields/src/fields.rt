@@ -3,7 +3,8 @@ ghost use Rattle.std.specs.Prelude.{◌≡◌, IfOk, OnErr, MatchResult, IsAscii
 ghost use Rattle.dep_head.specs.Head.{values_of};
 ghost use Rattle.dep_types.specs.Names.{if_passes, is_media};
 ghost use Rattle.dep_fixity.specs.Fixity.{digest_field};
-ghost use Rattle.dep_fields.specs.Fields.{AreCopies, AreFields, IsCopied, as_it_stands, field_in, is_behalf};
+ghost use Rattle.dep_fields.specs.Copied.{AreCopies};
+ghost use Rattle.dep_fields.specs.Fields.{AreFields, IsCopied, as_it_stands, field_in, is_behalf};
 ghost use Rattle.dep_fields.specs.Reported.{fields_of};
 ghost use Rattle.dep_fields.specs.Kinds.{IsKind, truth};
 ghost use Rattle.dep_fields.specs.Values.{HasValue, IsReadFrom, joined, or_bad, read_from, texts};
