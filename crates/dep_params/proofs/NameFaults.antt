@@ -1,7 +1,8 @@
 -- Why a function that hands on a fault gives no name.
 use Rattle.std.proofs.Common.{◌≡◌, ℕ, List, Result, Ok, Err, refl, sym, subst, inl, inr, IfErr, MatchResult}
 use Rattle.std.specs.Result.{IsErrAnd}
-use Rattle.dep_params.specs.Names.{FailsToName, IsNameFault}
+use Rattle.dep_params.specs.Failing.{FailsToName}
+use Rattle.dep_params.specs.Names.{IsNameFault}
 use Rattle.dep_params.specs.declared.disposition.ParamFault.{ParamFault}
 use Rattle.dep_params.specs.declared.disposition.ParamFault.TheVariants.{Malformed, Repeated, NoName, Memory}
 

@@ -7,7 +7,7 @@ use Rattle.percent_encoding.specs.Percent.{percent_decode}
 use Rattle.dep_types.specs.Names.{is_good_name}
 use Rattle.dep_params.specs.Grammar.{DispositionValue, value_of}
 use Rattle.dep_params.specs.declared.disposition.ParamFault.{ParamFault}
-use Rattle.dep_params.specs.declared.disposition.ParamFault.TheVariants.{Malformed, Repeated, NoName, Memory}
+use Rattle.dep_params.specs.declared.disposition.ParamFault.TheVariants.{NoName, Memory}
 
 -- two hexadecimal digits stand behind the place
 abbrev pub HasTwoDigitsAfter : List ℕ → ℕ → Type 0
@@ -54,10 +54,3 @@ pub record IsFileName (reading : DispositionValue) (name : List ℕ) : Type 0 wh
 -- why there is no name: none may stand, or memory was refused
 abbrev pub IsNameFault : ParamFault → Type 0
 IsNameFault e = (e ≡ NoName) ⊎ (e ≡ Memory)
-
--- the fault says that nothing is such a name, or that memory was refused for one
-abbrev pub FailsToName : (List ℕ → Type 0) → ParamFault → Type 0
-FailsToName IsName Malformed = ⊥
-FailsToName IsName Repeated = ⊥
-FailsToName IsName NoName = (name : List ℕ) → ¬ IsName name
-FailsToName IsName Memory = (name : List ℕ) × IsName name

@@ -1,6 +1,6 @@
 -- What stands at the front of a text, and what follows it: values and parameters as they are read.
-use Rattle.std.specs.Prelude.{◌≡◌, ℕ, ◌+◌, ◌==◌, ◌&&◌, ◌||◌, not, Bool, true, false, List, [], ◌∷◌, ◌++◌, take, drop, Option, Some, None, Result, MatchResult, option_map, bytes_eq, if◌then◌else◌}
-use Rattle.std.specs.List.{prefix_len, position, IsDistinct}
+use Rattle.std.specs.Prelude.{◌≡◌, ℕ, ◌+◌, ◌==◌, ◌&&◌, ◌||◌, not, Bool, true, false, List, [], ◌∷◌, ◌++◌, take, drop, Option, Some, None, Result, MatchResult, option_map, if◌then◌else◌}
+use Rattle.std.specs.List.{prefix_len, position}
 use Rattle.std.specs.Str.{str_to_ascii_lowercase}
 use Rattle.dep_octets.specs.Octets.{is_token_octet, trim_start}
 use Rattle.dep_params.specs.Grammar.{AreParameters, NamedValue, is_control, is_bare_octet}
@@ -24,13 +24,6 @@ Refuses text Malformed = (ps : List NamedValue) → ¬ AreParameters text ps
 Refuses text Repeated = ⊥
 Refuses text NoName = ⊥
 Refuses text Memory = Unit {0}
-
--- the fault says that a name stands twice, or that memory was refused
-abbrev pub ReportsRepeats : (names : List (List ℕ)) → ParamFault → Type 0
-ReportsRepeats names Malformed = ⊥
-ReportsRepeats names Repeated = ¬ IsDistinct bytes_eq names
-ReportsRepeats names NoName = ⊥
-ReportsRepeats names Memory = Unit {0}
 
 -- the octet before the others that are read
 abbrev pub with_octet : ℕ → Option (List ℕ × List ℕ) → Option (List ℕ × List ℕ)

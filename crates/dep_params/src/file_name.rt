@@ -3,7 +3,8 @@ ghost use Rattle.std.specs.Prelude.{◌≡◌, ◌==◌, ◌<◌, ◌↔◌, ◌
 ghost use Rattle.percent_encoding.specs.Percent as spec;
 ghost use Rattle.std.specs.Str.{str_eq_ignore_ascii_case};
 ghost use Rattle.dep_params.specs.Grammar.{value_of};
-ghost use Rattle.dep_params.specs.Names.{FailsToName, HasTwoDigitsAfter, HasWholeEscapes, IsExtended, IsFileName, IsNameFault, IsReportedName};
+ghost use Rattle.dep_params.specs.Failing.{FailsToName};
+ghost use Rattle.dep_params.specs.Names.{HasTwoDigitsAfter, HasWholeEscapes, IsExtended, IsFileName, IsNameFault, IsReportedName};
 ghost use Rattle.dep_params.specs.Reading.{cut_at_apostrophe};
 
 use crate::disposition::{Disposition, ParamFault};

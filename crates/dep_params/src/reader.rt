@@ -3,7 +3,8 @@ ghost use Rattle.std.specs.Prelude.{◌≡◌, ◌≢◌, ◌⊎◌, ◌<◌, Li
 ghost use Rattle.std.specs.List.{IsDistinct};
 ghost use Rattle.std.specs.Option.{option_copied};
 ghost use Rattle.dep_params.specs.Grammar.{AreParameters, HasDistinctNames, IsDisposition, NamedValue, DispositionValue};
-ghost use Rattle.dep_params.specs.Reading.{Gives, Refuses, ReportsRepeats, behind_name, named, semicolon_read, token_len, value_read};
+ghost use Rattle.dep_params.specs.Failing.{ReportsRepeats};
+ghost use Rattle.dep_params.specs.Reading.{Gives, Refuses, behind_name, named, semicolon_read, token_len, value_read};
 ghost use Rattle.dep_params.specs.Stored.{names_in, view, views};
 
 use crate::disposition::{Disposition, ParamFault, Parameter};

@@ -2,7 +2,8 @@ use Rattle.std.proofs.Common.{◌≡◌, ◌∙◌, ℕ, List, take, drop, map, 
 use Rattle.std.specs.List.{IsDistinct}
 use Rattle.std.specs.Str.{str_to_ascii_lowercase}
 use Rattle.dep_params.specs.Grammar.{AreParameters, NamedValue, DispositionValue}
-use Rattle.dep_params.specs.Reading.{Refuses, ReportsRepeats, token_len}
+use Rattle.dep_params.specs.Failing.{ReportsRepeats}
+use Rattle.dep_params.specs.Reading.{Refuses, token_len}
 use Rattle.dep_params.specs.Stored.{names_in, views}
 use Rattle.dep_params.specs.declared.disposition.ParamFault.TheVariants.{Malformed, Repeated}
 use Rattle.dep_params.specs.declared.disposition.Parameter.{Parameter}

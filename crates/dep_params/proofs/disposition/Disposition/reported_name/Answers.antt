@@ -1,7 +1,8 @@
 use Rattle.std.proofs.Common.{rules, ◌≡◌, ℕ, List, Option, None, Some, codes, sym, refl, subst, MatchResult}
 use Rattle.std.specs.Result.{IsErrAnd}
 use Rattle.dep_params.specs.Grammar.{value_of}
-use Rattle.dep_params.specs.Names.{FailsToName, IsReported, IsReportedName}
+use Rattle.dep_params.specs.Failing.{FailsToName}
+use Rattle.dep_params.specs.Names.{IsReported, IsReportedName}
 use Rattle.dep_params.specs.declared.disposition.ParamFault.TheVariants.{Memory}
 use Rattle.dep_params.proofs.NameFaults.{wanted}
 use Rattle.dep_params.proofs.disposition.Disposition.reported_name.Goals as goal
