@@ -117,8 +117,12 @@ fn first_slash(text: &[u8]) -> Option<usize>
 fn stripped<'a>(path: &'a [u8], number: &[u8]) -> Option<&'a [u8]>
     ensures { IsBehind (in_folder number.now) path.now (option_copied result) }
 {
-    let folder = after(path, b"data/")?;
-    let behind = after(folder, number)?;
+    let Some(folder) = after(path, b"data/") else {
+        return None;
+    };
+    let Some(behind) = after(folder, number) else {
+        return None;
+    };
     after(behind, b"/")
 }
 

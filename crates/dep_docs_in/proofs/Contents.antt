@@ -1,31 +1,19 @@
 -- What a content is, where it is text of UTF-8.
-use Rattle.std.proofs.Common.{◌≡◌, ℕ, List, true, false, Option, Some, None, arith, refl, ap, ◌∙◌}
+use Rattle.std.proofs.Common.{◌≡◌, ℕ, List, true, false, Some, None, refl, ap, ◌∙◌}
 use Rattle.std.proofs.lemmas.Str.{IsUtf8-from_is_utf8, is_utf8-from_IsUtf8}
 use Rattle.std.specs.Str.{IsUtf8, is_utf8}
 use Rattle.serde_json.specs.Data.{Data}
 use Rattle.serde_json.specs.Read.{read}
-use Rattle.serde_json.specs.Errors.{IsMemory, category}
-use Rattle.serde_json.specs.declared.error.Category.{Category}
-use Rattle.serde_json.specs.declared.error.Category.TheVariants as json
-use Rattle.serde_json.specs.declared.error.Error.{Error}
 use Rattle.dep_types.specs.Maps.{provided}
 use Rattle.dep_docs_in.specs.Documents.{document}
-use Rattle.dep_docs_in.specs.Faults.{Fails, fault_of_json}
 
 pub document-is : (content : List ℕ) (d : Data) → IsUtf8 content → read content ≡ Some d → document content ≡ Some d
 unfolding document
 document-is content d good is = ap (λ b. provided b (read content)) (is_utf8-from_IsUtf8 content good) ∙ is
 
-no_document : (content : List ℕ) → (IsUtf8 content → read content ≡ None) → document content ≡ None
+pub no_document : (content : List ℕ) → (IsUtf8 content → read content ≡ None) → document content ≡ None
 unfolding document
 no_document content none = elim (is_utf8 content) as (λ b. is_utf8 content ≡ b → provided b (read content) ≡ None) [
   | true ↦ λ e. none (IsUtf8-from_is_utf8 content e)
   | false ↦ λ e. refl
 ] refl
-
-fails_by : {Y : Type 0} (kind : Category) (found : Option Y) → (¬ (kind ≡ json.Memory) → found ≡ None) → Fails (fault_of_json kind) found
-fails_by json.Memory found none = tt
-fails_by _ found none = none (grind arith)
-
-pub unread : (content : List ℕ) (e : Error) → (¬ IsMemory e → IsUtf8 content → read content ≡ None) → Fails (fault_of_json (category e)) (document content)
-unread content e none = fails_by (category e) (document content) (λ reported. no_document content (none (λ memory. reported (rw memory refl))))

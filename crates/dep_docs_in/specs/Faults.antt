@@ -1,9 +1,5 @@
 -- How the result of a reader stands to what there is to be read, and what its faults are made of.
 use Rattle.std.specs.Prelude.{◌≡◌, ℕ, Option, Some, None, Result, Ok, Err}
-use Rattle.serde_json.specs.declared.error.Category.{Category}
-use Rattle.serde_json.specs.declared.error.Category.TheVariants as json
-use Rattle.url.specs.declared.error.ParseError.{ParseError}
-use Rattle.url.specs.declared.error.ParseError.TheVariants as url
 use Rattle.dep_params.specs.declared.disposition.ParamFault.{ParamFault}
 use Rattle.dep_params.specs.declared.disposition.ParamFault.TheVariants as params
 use Rattle.dep_docs_in.specs.declared.fault.DocFault.{DocFault}
@@ -13,17 +9,6 @@ use Rattle.dep_docs_in.specs.declared.fault.DocFault.TheVariants.{Malformed, Mem
 abbrev pub fault_number : DocFault → ℕ
 fault_number Malformed = 1
 fault_number Memory = 2
-
--- an error of the content as JSON
-abbrev pub fault_of_json : Category → DocFault
-fault_of_json json.Memory = Memory
-fault_of_json _ = Malformed
-
--- an error of a URL; one whose length would be 4 GB counts as lack of memory
-abbrev pub fault_of_url : ParseError → DocFault
-fault_of_url url.OutOfMemory = Memory
-fault_of_url url.Overflow = Memory
-fault_of_url _ = Malformed
 
 -- a fault of a disposition, or of the file name in it
 abbrev pub fault_of_disposition : ParamFault → DocFault

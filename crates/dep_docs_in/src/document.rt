@@ -8,14 +8,20 @@ ghost use Rattle.std.specs.Option.{option_copied};
 
 use crate::fault::DocFault;
 use dep_types::Text;
-use serde_json::Value;
+use serde_json::{Category, Value};
 use std::alloc::Global;
 
 /// The value that a content is (RFC 8259), nested at most 127 deep. Of members with one name the last stays.
 pub(crate) fn document(alloc: Global, content: &[u8]) -> Result<Value, DocFault>
     ensures { GivesBy view result (document content.now) }
 {
-    Ok(Value::from_slice(alloc, content)?)
+    match Value::from_slice(alloc, content) {
+        Ok(value) => Ok(value),
+        Err(error) => match error.classify() {
+            Category::Memory => Err(DocFault::Memory),
+            _ => Err(DocFault::Malformed),
+        },
+    }
 }
 
 /// Whether `@type` is absent, or this name.
@@ -32,14 +38,20 @@ pub(crate) fn has_type(document: &Value, name: &str) -> bool
 pub(crate) fn text_of<'a>(document: &'a Value, name: &str) -> Option<&'a str>
     ensures { option_copied result ≡ text_under name.now (view document.now) }
 {
-    document.get(name)?.as_str()
+    match document.get(name) {
+        Some(value) => value.as_str(),
+        None => None,
+    }
 }
 
 /// The items of a member that is there and is a list.
 pub(crate) fn items_of<'a>(document: &'a Value, name: &str) -> Option<&'a Vec<Value>>
     ensures { option_map (λ items. items_view items.now.items) result ≡ items_under name.now (view document.now) }
 {
-    document.get(name)?.as_array()
+    match document.get(name) {
+        Some(value) => value.as_array(),
+        None => None,
+    }
 }
 
 /// A copy of the text that a value is.

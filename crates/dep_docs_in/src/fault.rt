@@ -2,13 +2,10 @@
 ghost use Rattle.std.specs.Prelude.{◌≡◌};
 ghost use Rattle.dep_docs_in.specs.Faults.{fault_number};
 
-use dep_fixity::DigestFault;
 use dep_params::ParamFault;
-use serde_json::Category;
 use std::alloc::{AllocError, AllocFailed};
 use std::error::Error;
 use std::fmt;
-use url::ParseError;
 
 /// Why a document is refused.
 #[derive(Clone, Copy, Debug)]
@@ -62,33 +59,6 @@ impl<T: Drop> From<AllocFailed<T>> for DocFault {
     }
 }
 
-impl From<serde_json::Error> for DocFault {
-    ghost use Rattle.serde_json.specs.Errors.{category};
-    ghost use Rattle.dep_docs_in.specs.Faults.{fault_of_json};
-
-    ghost from_gives = { λ error e. e ≡ fault_of_json (category error) };
-
-    fn from(error: serde_json::Error) -> DocFault {
-        match error.classify() {
-            Category::Memory => DocFault::Memory,
-            _ => DocFault::Malformed,
-        }
-    }
-}
-
-impl From<ParseError> for DocFault {
-    ghost use Rattle.dep_docs_in.specs.Faults.{fault_of_url};
-
-    ghost from_gives = { λ error e. e ≡ fault_of_url error };
-
-    fn from(error: ParseError) -> DocFault {
-        match error {
-            ParseError::OutOfMemory | ParseError::Overflow => DocFault::Memory,
-            _ => DocFault::Malformed,
-        }
-    }
-}
-
 impl From<ParamFault> for DocFault {
     ghost use Rattle.dep_docs_in.specs.Faults.{fault_of_disposition};
 
@@ -101,15 +71,5 @@ impl From<ParamFault> for DocFault {
             }
             ParamFault::Memory => DocFault::Memory,
         }
-    }
-}
-
-impl From<DigestFault> for DocFault {
-    ghost use Rattle.dep_docs_in.specs.declared.fault.DocFault.TheVariants.{Malformed};
-
-    ghost from_gives = { λ _ e. e ≡ Malformed };
-
-    fn from(_fault: DigestFault) -> DocFault {
-        DocFault::Malformed
     }
 }

@@ -16,7 +16,7 @@ use dep_params::{Disposition, read_disposition};
 use dep_types::{Config, GREATEST_NUMBER, List, Text, is_media};
 use serde_json::Value;
 use std::alloc::Global;
-use url::Url;
+use url::{ParseError, Url};
 
 /// Reads a document of references (SWORD 3.0, by-reference deposit): an object of JSON whose `@type` is absent or
 /// `ByReference`, with entries under `byReferenceFiles`, at least one. Each entry has in `@id` a URL and in
@@ -93,8 +93,12 @@ fn target_of(alloc: Global, config: &Config, entry: &Value) -> Result<Pointed, D
     let Some(text) = text_of(entry, "@id") else {
         return Err(DocFault::Malformed);
     };
-    let url = Url::parse(alloc, text)?;
-    Ok(pointed_by(config, url.as_str().as_bytes()))
+    match Url::parse(alloc, text) {
+        Ok(url) => Ok(pointed_by(config, url.as_str().as_bytes())),
+        // A URL whose length would be 4 GB counts as lack of memory.
+        Err(ParseError::OutOfMemory | ParseError::Overflow) => Err(DocFault::Memory),
+        Err(_) => Err(DocFault::Malformed),
+    }
 }
 
 // An upload of this server, or elsewhere, by the text of a URL.
@@ -110,8 +114,13 @@ fn pointed_by(config: &Config, url: &[u8]) -> Pointed
 fn upload_number(config: &Config, url: &[u8]) -> Option<u64>
     ensures { result ≡ upload_number config.now url.now }
 {
-    let path = behind(config.base.as_str().as_bytes(), url)?;
-    positive_decimal(behind(b"/staging/", path)?, GREATEST_NUMBER)
+    let Some(path) = behind(config.base.as_str().as_bytes(), url) else {
+        return None;
+    };
+    let Some(number) = behind(b"/staging/", path) else {
+        return None;
+    };
+    positive_decimal(number, GREATEST_NUMBER)
 }
 
 // What follows this front, where the text begins with it.
@@ -206,8 +215,11 @@ fn digest_of(entry: &Value) -> Result<DigestList, DocFault>
 fn digest_in(value: &Value) -> Result<DigestList, DocFault>
     ensures { Gives result (option_and_then digest_field (as_str (view value.now))) }
 {
-    match value.as_str() {
-        Some(text) => Ok(read_digest_field(text.as_bytes())?),
-        None => Err(DocFault::Malformed),
+    let Some(text) = value.as_str() else {
+        return Err(DocFault::Malformed);
+    };
+    match read_digest_field(text.as_bytes()) {
+        Ok(digest) => Ok(digest),
+        Err(_) => Err(DocFault::Malformed),
     }
 }

@@ -3,6 +3,7 @@ ghost use Rattle.std.specs.Prelude.{◌≡◌, IfOk, OnErr, MatchResult, IsAscii
 ghost use Rattle.dep_head.specs.Head.{values_of};
 ghost use Rattle.dep_types.specs.Names.{if_passes, is_media};
 ghost use Rattle.dep_fixity.specs.Fixity.{digest_field};
+ghost use Rattle.dep_fields.specs.Copied.{AreCopies};
 ghost use Rattle.dep_fields.specs.Fields.{AreFields, IsCopied, as_it_stands, field_in, is_behalf};
 ghost use Rattle.dep_fields.specs.Reported.{fields_of};
 ghost use Rattle.dep_fields.specs.Kinds.{IsKind, truth};
@@ -44,17 +45,42 @@ impl SwordFields {
         ensures one { IfOk result (λ read. read ≡ fields_of head.now.fields) }
         ensures wanted { OnErr result (IsCopied head.now.fields) }
     {
+        let on_behalf_of = behalf(alloc, single(head, "On-Behalf-Of"))?;
+        let disposition = disposition(alloc, single(head, "Content-Disposition"))?;
+        let digest = digest(alloc, head)?;
+        let copies = copied_fields(alloc, head)?;
         Ok(SwordFields {
-            on_behalf_of: behalf(alloc, single(head, "On-Behalf-Of"))?,
-            disposition: disposition(alloc, single(head, "Content-Disposition"))?,
+            on_behalf_of,
+            disposition,
             in_progress: progress(single(head, "In-Progress")),
-            packaging: copied(alloc, single(head, "Packaging"))?,
-            metadata_format: copied(alloc, single(head, "Metadata-Format"))?,
-            content_type: media(alloc, single(head, "Content-Type"))?,
-            content_encoding: copied(alloc, single(head, "Content-Encoding"))?,
-            digest: digest(alloc, head)?,
+            packaging: copies.packaging,
+            metadata_format: copies.metadata_format,
+            content_type: copies.content_type,
+            content_encoding: copies.content_encoding,
+            digest,
         })
     }
+}
+
+// The fields that are copied as they stand.
+#[derive(Drop)]
+struct Copies {
+    packaging: Field<Octets>,
+    metadata_format: Field<Octets>,
+    content_encoding: Field<Octets>,
+    content_type: Field<Text>,
+}
+
+fn copied_fields(alloc: Global, head: &Head) -> Result<Copies, AllocError>
+    ensures fields { IfOk result (AreCopies head.now.fields) }
+    ensures wanted { OnErr result (IsCopied head.now.fields) }
+{
+    Ok(Copies {
+        packaging: copied(alloc, single(head, "Packaging"))?,
+        metadata_format: copied(alloc, single(head, "Metadata-Format"))?,
+        content_encoding: copied(alloc, single(head, "Content-Encoding"))?,
+        content_type: media(alloc, single(head, "Content-Type"))?,
+    })
 }
 
 fn disposition(alloc: Global, field: Field<&[u8]>) -> Result<Field<Kind>, AllocError>

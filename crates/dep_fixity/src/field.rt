@@ -126,7 +126,9 @@ fn read_promise<const N: usize>(
 fn promised_again<const N: usize>(before: Option<[u8; N]>, value: &[u8]) -> Option<[u8; N]>
     ensures { result ≡ joined before.entry (octets_of N value.now) }
 {
-    let digest = read_digest(value)?;
+    let Some(digest) = read_digest(value) else {
+        return None;
+    };
     match before {
         Some(other) if other != digest => None,
         _ => Some(digest),

@@ -59,19 +59,6 @@ impl From<AllocError> for HeadFault {
     }
 }
 
-impl From<UriError> for HeadFault {
-    ghost use Rattle.dep_head.specs.Faults.{head_fault_for};
-
-    ghost from_gives = { λ error fault. fault ≡ head_fault_for error };
-
-    fn from(error: UriError) -> HeadFault {
-        match error {
-            UriError::Invalid(_) => HeadFault::NotAHead,
-            UriError::OutOfMemory => HeadFault::Memory,
-        }
-    }
-}
-
 /// The head of a request, which keeps a copy of its text.
 #[derive(Drop)]
 pub struct Head {
@@ -184,8 +171,11 @@ fn read_path(alloc: Global, target: &[u8]) -> Result<String, HeadFault>
         × (string_bytes path ≡ uri_path uri)) }
     ensures refused { result ≡ Err HeadFault.NotAHead → (uri : Uri) → ¬ Spells target.now uri }
 {
-    let uri = Uri::from_bytes(alloc, target)?;
-    Ok(String::from_str(alloc, uri.path())?)
+    match Uri::from_bytes(alloc, target) {
+        Ok(uri) => Ok(String::from_str(alloc, uri.path())?),
+        Err(UriError::Invalid(_)) => Err(HeadFault::NotAHead),
+        Err(UriError::OutOfMemory) => Err(HeadFault::Memory),
+    }
 }
 
 // HTTP/1.1 has exactly one Host field, and HTTP/1.0 at most one (RFC 9112, section 3.2).

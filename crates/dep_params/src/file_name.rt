@@ -3,6 +3,7 @@ ghost use Rattle.std.specs.Prelude.{◌≡◌, ◌==◌, ◌<◌, ◌↔◌, ◌
 ghost use Rattle.percent_encoding.specs.Percent as spec;
 ghost use Rattle.std.specs.Str.{str_eq_ignore_ascii_case};
 ghost use Rattle.dep_params.specs.Grammar.{value_of};
+ghost use Rattle.dep_params.specs.Failing.{FailsToName};
 ghost use Rattle.dep_params.specs.Names.{HasTwoDigitsAfter, HasWholeEscapes, IsExtended, IsFileName, IsNameFault, IsReportedName};
 ghost use Rattle.dep_params.specs.Reading.{cut_at_apostrophe};
 
@@ -36,12 +37,8 @@ impl Disposition {
 
     // The name that the parameters give, whether it may stand or not.
     fn reported_name(&self, alloc: Global) -> Result<Vec<u8>, ParamFault>
-        ensures reported { IfOk result (λ name. IsReportedName self.now name.items) }
-        ensures unreported { result ≡ Err ParamFault.NoName →
-            (name : List ℕ) → ¬ IsReportedName self.now name }
-        ensures faults { IfErr result IsNameFault }
-        ensures wanted { result ≡ Err ParamFault.Memory →
-            (name : List ℕ) × IsReportedName self.now name }
+        ensures { MatchResult result (λ name. IsReportedName self.now name.items)
+            (FailsToName (IsReportedName self.now)) }
     {
         match self.parameter(b"filename*") {
             Some(text) => decoded(alloc, text),
@@ -55,12 +52,8 @@ impl Disposition {
 
 // The name that an extended value gives.
 fn decoded(alloc: Global, text: &[u8]) -> Result<Vec<u8>, ParamFault>
-    ensures reported { IfOk result (λ name. IsExtended text.now name.items) }
-    ensures unreported { result ≡ Err ParamFault.NoName →
-        (name : List ℕ) → ¬ IsExtended text.now name }
-    ensures faults { IfErr result IsNameFault }
-    ensures wanted { result ≡ Err ParamFault.Memory →
-        (name : List ℕ) × IsExtended text.now name }
+    ensures { MatchResult result (λ name. IsExtended text.now name.items)
+        (FailsToName (IsExtended text.now)) }
 {
     let Some(escaped) = escaped_part(text) else {
         return Err(ParamFault::NoName);
@@ -75,8 +68,12 @@ fn escaped_part(text: &[u8]) -> Option<&[u8]>
     ensures { MatchOption result ((name : List ℕ) → ¬ IsExtended text.now name)
         (λ escaped. IsExtended text.now (spec.percent_decode escaped.now)) }
 {
-    let (charset, rest) = cut_at_apostrophe(text)?;
-    let (_, escaped) = cut_at_apostrophe(rest)?;
+    let Some((charset, rest)) = cut_at_apostrophe(text) else {
+        return None;
+    };
+    let Some((_, escaped)) = cut_at_apostrophe(rest) else {
+        return None;
+    };
     if is_utf8_charset(charset) && has_whole_escapes(escaped) {
         Some(escaped)
     } else {

@@ -1,9 +1,9 @@
 //! Reading a Content-Disposition field.
-ghost use Rattle.std.specs.Prelude.{◌≡◌, ◌≢◌, ◌⊎◌, ◌<◌, List, not, map, bytes_eq, IfOk, IfErr};
-ghost use Rattle.std.specs.Bool.{Decides};
+ghost use Rattle.std.specs.Prelude.{◌≡◌, ◌≢◌, ◌⊎◌, ◌<◌, List, map, bytes_eq, IfOk, IfErr, MatchResult};
 ghost use Rattle.std.specs.List.{IsDistinct};
 ghost use Rattle.std.specs.Option.{option_copied};
 ghost use Rattle.dep_params.specs.Grammar.{AreParameters, HasDistinctNames, IsDisposition, NamedValue, DispositionValue};
+ghost use Rattle.dep_params.specs.Failing.{ReportsRepeats};
 ghost use Rattle.dep_params.specs.Reading.{Gives, Refuses, behind_name, named, semicolon_read, token_len, value_read};
 ghost use Rattle.dep_params.specs.Stored.{names_in, view, views};
 
@@ -35,9 +35,7 @@ pub fn read_disposition(alloc: Global, text: &[u8]) -> Result<Disposition, Param
         return Err(ParamFault::Malformed);
     }
     let parameters = read_parameters(alloc, rest)?;
-    if has_repeats(alloc, &parameters)? {
-        return Err(ParamFault::Repeated);
-    }
+    refuse_repeats(alloc, &parameters)?;
     let form = form.to_ascii_lowercase(alloc)?;
     Ok(Disposition::of(form, parameters))
 }
@@ -103,17 +101,16 @@ fn read_value(alloc: Global, text: &[u8]) -> Result<(Vec<u8>, &[u8]), ParamFault
     Ok((value.to_vec(alloc)?, rest))
 }
 
-// Whether two parameters have one name.
-fn has_repeats(alloc: Global, parameters: &[Parameter]) -> Result<bool, ParamFault>
-    ensures read { IfOk result (λ repeats.
-        Decides (not repeats) (IsDistinct bytes_eq (names_in parameters.now))) }
-    ensures faults { IfErr result (λ e. e ≡ ParamFault.Memory) }
+// Fails where two parameters have one name.
+fn refuse_repeats(alloc: Global, parameters: &[Parameter]) -> Result<(), ParamFault>
+    ensures { MatchResult result (λ _. IsDistinct bytes_eq (names_in parameters.now))
+        (ReportsRepeats (names_in parameters.now)) }
 {
     let mut names: BTreeSet<&[u8]> = BTreeSet::new(alloc);
     for parameter in parameters {
         if !names.insert(&parameter.name)? {
-            return Ok(true);
+            return Err(ParamFault::Repeated);
         }
     }
-    Ok(false)
+    Ok(())
 }

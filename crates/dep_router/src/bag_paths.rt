@@ -45,7 +45,9 @@ fn only_decoded(front: &[u8]) -> Option<u8>
     ensures other { result ≡ None → (octet : ℕ) → ¬ (decoded front.now ≡ octet ∷ []) }
 {
     let mut octets = percent_decode(front);
-    let octet = octets.next()?;
+    let Some(octet) = octets.next() else {
+        return None;
+    };
     match octets.next() {
         None => Some(octet),
         Some(_) => None,

@@ -1,20 +1,16 @@
-use Rattle.std.proofs.Common.{◌≡◌, ◌∙◌, ℕ, List, Result, Ok, Err, true, not, take, drop, map, bytes_eq, refl, sym, ap, subst}
+use Rattle.std.proofs.Common.{◌≡◌, ◌∙◌, ℕ, List, take, drop, map, bytes_eq, refl, sym, ap, subst}
 use Rattle.std.specs.List.{IsDistinct}
-use Rattle.std.specs.Result.{IsErrAnd}
 use Rattle.std.specs.Str.{str_to_ascii_lowercase}
 use Rattle.dep_params.specs.Grammar.{AreParameters, NamedValue, DispositionValue}
+use Rattle.dep_params.specs.Failing.{ReportsRepeats}
 use Rattle.dep_params.specs.Reading.{Refuses, token_len}
-use Rattle.dep_params.specs.Stored.{views}
-use Rattle.dep_params.specs.declared.disposition.ParamFault.{ParamFault}
-use Rattle.dep_params.specs.declared.disposition.ParamFault.TheVariants.{Malformed}
+use Rattle.dep_params.specs.Stored.{names_in, views}
+use Rattle.dep_params.specs.declared.disposition.ParamFault.TheVariants.{Malformed, Repeated}
 use Rattle.dep_params.specs.declared.disposition.Parameter.{Parameter}
+use Rattle.dep_params.proofs.NameFaults.{err_is}
 use Rattle.dep_params.proofs.Slots.{is_named, is_unnamed}
 use Rattle.dep_params.proofs.Dispositions.{split, joined, names-views}
 use Rattle.dep_params.proofs.reader.read_disposition.Goals as goal
-
-err_is : {A : Type 0} (result : Result A ParamFault) (e f : ParamFault) → IsErrAnd result (λ g. g ≡ e) → result ≡ Err f → e ≡ f
-err_is (Ok a) e f h is = cc is
-err_is (Err g) e f h is = cc (h, is)
 
 -- the names as they are kept are those of the reading
 distinct_names : (ps kept : List Parameter) → kept ≡ ps → IsDistinct bytes_eq (map (λ p. p.name.items) kept) → IsDistinct bytes_eq (map (λ (p : NamedValue). p.name) (views ps))
@@ -33,19 +29,18 @@ returns-in_err-parameters-clause-malformed c = λ h reading is.
     let refuses : Refuses c.split_token.result.1.now Malformed = subst (Refuses c.split_token.result.1.now) same c.in_err-parameters.ensures.refused in
     refuses reading.parameters (subst (λ (t : List ℕ). AreParameters t reading.parameters) (sym c.split_token.ensures.rest) (split c.args.text.now reading is).parameters)
 
-pub returns-then-branch-clause-repeated : goal.returns-then-branch-clause-repeated
-returns-then-branch-clause-repeated c = λ h.
+pub returns-in_err-refuse_repeats-clause-repeated : goal.returns-in_err-refuse_repeats-clause-repeated
+returns-in_err-refuse_repeats-clause-repeated c = λ h.
     let text = c.args.text.now in
     let ps = c.in_ok-parameters.parameters.items in
     let reading : DispositionValue = record { form = str_to_ascii_lowercase (take (token_len text) text); parameters = views ps } in
     let named = is_named text _ _ c.split_token.ensures.token c.is_empty.ensures c.if-is_empty.false in
-    let parameters : AreParameters (drop (token_len text) text) (views ps) = subst (λ (t : List ℕ). AreParameters t (views ps)) c.split_token.ensures.rest c.in_ok-parameters.ensures.read in (
+    let parameters : AreParameters (drop (token_len text) text) (views ps) = subst (λ (t : List ℕ). AreParameters t (views ps)) c.split_token.ensures.rest c.in_ok-parameters.ensures.read in
+    let same = err_is _ c.in_err-refuse_repeats.field-0.0 Repeated c.from_residual-in_err-refuse_repeats.ensures.1 h in
+    let bad = subst (ReportsRepeats (names_in c.deref.result.now)) same c.in_err-refuse_repeats.ensures in (
       reading,
       joined text reading (record { named = named; form = refl; parameters = parameters }),
-      λ distinct.
-          let bad = c.in_ok-has_repeats.ensures.read.1 (distinct_kept ps c.deref.result.now c.deref.ensures.value distinct) in
-          let worse = rw c.if-branch.true at bad in
-          cc worse,
+      λ distinct. bad (distinct_kept ps c.deref.result.now c.deref.ensures.value distinct),
     )
 
 pub returns-clause-read : goal.returns-clause-read
@@ -56,8 +51,7 @@ returns-clause-read c =
     let rest : AreParameters (drop (token_len text) text) (views ps) = subst (λ (t : List ℕ). AreParameters t (views ps)) c.split_token.ensures.rest c.in_ok-parameters.ensures.read in
     let parameters : AreParameters (drop (token_len text) text) c.of.result.parameters = subst (λ (l : List NamedValue). AreParameters (drop (token_len text) text) l) (sym c.of.ensures.parameters) rest in
     let form : c.of.result.form ≡ str_to_ascii_lowercase (take (token_len text) text) = c.of.ensures.form ∙ c.in_ok-form.ensures.ok ∙ ap str_to_ascii_lowercase c.split_token.ensures.token in
-    let none : not c.in_ok-has_repeats.field-0 ≡ true = rw c.if-branch.false refl in
-    let distinct = distinct_names ps c.deref.result.now c.deref.ensures.value (c.in_ok-has_repeats.ensures.read.0 none) in (
+    let distinct = distinct_names ps c.deref.result.now c.deref.ensures.value c.in_ok-refuse_repeats.ensures in (
       joined text c.of.result (record { named = named; form = form; parameters = parameters }),
       subst (λ (l : List NamedValue). IsDistinct bytes_eq (map (λ (p : NamedValue). p.name) l)) (sym c.of.ensures.parameters) distinct,
     )

@@ -1,7 +1,7 @@
 use Rattle.std.proofs.Common.{◌∙◌, ap, subst}
-use Rattle.dep_types.specs.Names.{if_passes, is_media}
+use Rattle.dep_types.specs.Names.{if_passes}
 use Rattle.dep_head.proofs.AnyError.{on_err}
-use Rattle.dep_fields.specs.Fields.{as_it_stands, content_type, is_behalf}
+use Rattle.dep_fields.specs.Fields.{disposition, is_behalf}
 use Rattle.dep_fields.specs.Kinds.{IsKind, truth}
 use Rattle.dep_fields.specs.Values.{HasValue, IsReadFrom, read_from}
 use Rattle.dep_fields.specs.Reported.{fields_of}
@@ -11,18 +11,18 @@ use Rattle.dep_fields.proofs.fields.SwordFields.read.Goals as goal
 
 pub returns-clause-fields : goal.returns-clause-fields
 returns-clause-fields c = record {
-  on_behalf_of = c.in_ok-behalf.ensures ∙ ap (read_from (if_passes is_behalf)) c.single.ensures;
-  disposition = subst (λ t. IsReadFrom IsKind t c.in_ok-disposition.field-0) c.single-2.ensures c.in_ok-disposition.ensures;
+  on_behalf_of = c.in_ok-on_behalf_of.ensures ∙ ap (read_from (if_passes is_behalf)) c.single.ensures;
+  disposition = subst (λ t. IsReadFrom IsKind t c.in_ok-disposition.disposition) c.single-2.ensures c.in_ok-disposition.ensures;
   in_progress = c.progress.ensures ∙ ap (read_from truth) c.single-3.ensures;
-  packaging = c.in_ok-copied.ensures ∙ ap (read_from as_it_stands) c.single-4.ensures;
-  metadata_format = c.in_ok-copied-2.ensures ∙ ap (read_from as_it_stands) c.single-5.ensures;
-  content_type = c.in_ok-media.ensures ∙ ap (read_from (if_passes is_media)) c.single-6.ensures;
-  content_encoding = c.in_ok-copied-3.ensures ∙ ap (read_from as_it_stands) c.single-7.ensures;
+  packaging = c.in_ok-copies.ensures.fields.packaging;
+  metadata_format = c.in_ok-copies.ensures.fields.metadata_format;
+  content_type = c.in_ok-copies.ensures.fields.content_type;
+  content_encoding = c.in_ok-copies.ensures.fields.content_encoding;
   digest = c.in_ok-digest.ensures;
 }
 
 pub returns-clause-one : goal.returns-clause-one
 returns-clause-one c = one_reporting c.args.head.now.fields _ (fields_of c.args.head.now.fields) (returns-clause-fields c) (fields_are_reported c.args.head.now.fields)
 
-pub returns-in_err-media-clause-wanted : goal.returns-in_err-media-clause-wanted
-returns-in_err-media-clause-wanted c = on_err c.from_residual-in_err-media.result (content_type (subst (λ t. HasValue (read_from (if_passes is_media) t)) c.single-6.ensures c.in_err-media.ensures))
+pub returns-in_err-disposition-clause-wanted : goal.returns-in_err-disposition-clause-wanted
+returns-in_err-disposition-clause-wanted c = on_err c.from_residual-in_err-disposition.result (disposition (subst (λ t. HasValue t) c.single-2.ensures c.in_err-disposition.ensures))

@@ -3,7 +3,7 @@ use Rattle.std.specs.List.{IsDistinct, list_any}
 use Rattle.std.specs.BTreeSet.{contains}
 use Rattle.std.specs.Ordering.{nat_cmp}
 use Rattle.std.specs.Cmp.Lexicographic.{slice_cmp}
-use Rattle.dep_params.proofs.reader.has_repeats.Given as goal
+use Rattle.dep_params.proofs.reader.refuse_repeats.Given as goal
 
 abbrev pub invariant-loop-parameter : goal.invariant-loop-parameter
 invariant-loop-parameter l = record {

@@ -3,7 +3,7 @@ use Rattle.std.proofs.lemmas.List.{take_more, map-append, take-append-drop}
 use Rattle.std.specs.List.{IsDistinct, list_any}
 use Rattle.dep_params.specs.declared.disposition.Parameter.{Parameter}
 use Rattle.dep_params.proofs.Repeats.{distinct-nil, distinct-more, not_distinct, held-more}
-use Rattle.dep_params.proofs.reader.has_repeats.Goals as goal
+use Rattle.dep_params.proofs.reader.refuse_repeats.Goals as goal
 
 abbrev name : Parameter → List ℕ
 name p = p.name.items
@@ -33,17 +33,14 @@ not_true false h = refl
 pub loop-parameter-init : goal.loop-parameter-init
 loop-parameter-init c = record { held = λ k. let e = c.new-names.ensures.empty in rw e refl; distinct = distinct-nil }
 
-pub returns-then-not-branch-clause-read : goal.returns-then-not-branch-clause-read
-returns-then-not-branch-clause-read c = (
-  λ h. cc h,
-  λ is.
+pub returns-then-not-branch : goal.returns-then-not-branch
+returns-then-not-branch c = λ is.
       let ps = c.args.parameters.now in
       let i = c.loop-parameter.parameter-index in
       let x = c.deref.result.now in
       let split = names_split ps i c.parameter-item.result x c.loop-parameter-test.true c.parameter-item.is c.deref.ensures.value in
       let held = not_false _ (sym c.if-not-branch.true ∙ c.in_ok-insert.ensures.added) in
-      absurd (not_distinct (map name (take i ps)) x (map name (drop (suc i) ps)) (sym (c.loop-parameter.invariant.held c.deref.result) ∙ held) (subst (λ (l : List (List ℕ)). IsDistinct bytes_eq l) split is)),
-)
+      absurd (not_distinct (map name (take i ps)) x (map name (drop (suc i) ps)) (sym (c.loop-parameter.invariant.held c.deref.result) ∙ held) (subst (λ (l : List (List ℕ)). IsDistinct bytes_eq l) split is))
 
 pub loop-parameter-preserved : goal.loop-parameter-preserved
 loop-parameter-preserved c =
