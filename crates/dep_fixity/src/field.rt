@@ -126,9 +126,7 @@ fn read_promise<const N: usize>(
 fn promised_again<const N: usize>(before: Option<[u8; N]>, value: &[u8]) -> Option<[u8; N]>
     ensures { result ≡ joined before.entry (octets_of N value.now) }
 {
-    let Some(digest) = read_digest(value) else {
-        return None;
-    };
+    let digest = read_digest(value)?;
     match before {
         Some(other) if other != digest => None,
         _ => Some(digest),
