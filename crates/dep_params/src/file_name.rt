@@ -68,12 +68,8 @@ fn escaped_part(text: &[u8]) -> Option<&[u8]>
     ensures { MatchOption result ((name : List ℕ) → ¬ IsExtended text.now name)
         (λ escaped. IsExtended text.now (spec.percent_decode escaped.now)) }
 {
-    let Some((charset, rest)) = cut_at_apostrophe(text) else {
-        return None;
-    };
-    let Some((_, escaped)) = cut_at_apostrophe(rest) else {
-        return None;
-    };
+    let (charset, rest) = cut_at_apostrophe(text)?;
+    let (_, escaped) = cut_at_apostrophe(rest)?;
     if is_utf8_charset(charset) && has_whole_escapes(escaped) {
         Some(escaped)
     } else {
