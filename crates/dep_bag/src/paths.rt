@@ -117,12 +117,8 @@ fn first_slash(text: &[u8]) -> Option<usize>
 fn stripped<'a>(path: &'a [u8], number: &[u8]) -> Option<&'a [u8]>
     ensures { IsBehind (in_folder number.now) path.now (option_copied result) }
 {
-    let Some(folder) = after(path, b"data/") else {
-        return None;
-    };
-    let Some(behind) = after(folder, number) else {
-        return None;
-    };
+    let folder = after(path, b"data/")?;
+    let behind = after(folder, number)?;
     after(behind, b"/")
 }
 
