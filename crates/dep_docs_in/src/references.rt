@@ -114,13 +114,8 @@ fn pointed_by(config: &Config, url: &[u8]) -> Pointed
 fn upload_number(config: &Config, url: &[u8]) -> Option<u64>
     ensures { result ≡ upload_number config.now url.now }
 {
-    let Some(path) = behind(config.base.as_str().as_bytes(), url) else {
-        return None;
-    };
-    let Some(number) = behind(b"/staging/", path) else {
-        return None;
-    };
-    positive_decimal(number, GREATEST_NUMBER)
+    let path = behind(config.base.as_str().as_bytes(), url)?;
+    positive_decimal(behind(b"/staging/", path)?, GREATEST_NUMBER)
 }
 
 // What follows this front, where the text begins with it.
