@@ -45,9 +45,7 @@ fn only_decoded(front: &[u8]) -> Option<u8>
     ensures other { result ≡ None → (octet : ℕ) → ¬ (decoded front.now ≡ octet ∷ []) }
 {
     let mut octets = percent_decode(front);
-    let Some(octet) = octets.next() else {
-        return None;
-    };
+    let octet = octets.next()?;
     match octets.next() {
         None => Some(octet),
         Some(_) => None,

@@ -27,14 +27,11 @@ pub(crate) fn place_of_page<'p>(page: Page, params: &Params<'_, 'p>) -> Option<P
     match page {
         Page::Service => Some(Place::Resource(Resource::Service)),
         Page::Staging => Some(Place::Resource(Resource::Staging)),
-        Page::Upload => match number_named(params, "upload") {
-            Some(upload) => Some(Place::Resource(Resource::Upload(upload))),
-            None => None,
-        },
-        _ => match number_named(params, "object") {
-            Some(object) => place_of_object(object, page, params),
-            None => None,
-        },
+        Page::Upload => {
+            let upload = number_named(params, "upload")?;
+            Some(Place::Resource(Resource::Upload(upload)))
+        }
+        _ => place_of_object(number_named(params, "object")?, page, params),
     }
 }
 
@@ -49,14 +46,11 @@ fn place_of_object<'p>(object: u64, page: Page, params: &Params<'_, 'p>) -> Opti
         Page::Metadata => Some(Place::Resource(Resource::Metadata(object))),
         Page::FileSet => Some(Place::Resource(Resource::FileSet(object))),
         Page::BagList => Some(Place::Resource(Resource::BagList(object))),
-        Page::File => match number_named(params, "file") {
-            Some(file) => Some(Place::Resource(Resource::File(object, file))),
-            None => None,
-        },
-        Page::BagFile => match params.get("path") {
-            Some(path) => Some(Place::InBag(object, path)),
-            None => None,
-        },
+        Page::File => {
+            let file = number_named(params, "file")?;
+            Some(Place::Resource(Resource::File(object, file)))
+        }
+        Page::BagFile => Some(Place::InBag(object, params.get("path")?)),
         Page::Service | Page::Staging | Page::Upload => None,
     }
 }
@@ -66,8 +60,6 @@ fn number_named(params: &Params<'_, '_>, name: &str) -> Option<u64>
     requires { AllText (parts_of params.now) }
     ensures { result ≡ spec_number_named name.now (parts_of params.now) }
 {
-    match params.get(name) {
-        Some(text) => positive_decimal(text.as_bytes(), GREATEST_NUMBER),
-        None => None,
-    }
+    let text = params.get(name)?;
+    positive_decimal(text.as_bytes(), GREATEST_NUMBER)
 }

@@ -61,13 +61,12 @@ impl Routes {
     pub fn resource(&self, path: String) -> Option<Resource>
         ensures { result ≡ resource_of (segments (string_bytes path)) }
     {
-        match self.place(&path) {
-            Some(Place::Resource(resource)) => Some(resource),
-            Some(Place::InBag(object, end)) => {
+        match self.place(&path)? {
+            Place::Resource(resource) => Some(resource),
+            Place::InBag(object, end) => {
                 let start = path.len() - end.len();
                 Some(bag_file(object, path.into_bytes(), start))
             }
-            None => None,
         }
     }
 
