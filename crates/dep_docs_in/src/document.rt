@@ -38,20 +38,14 @@ pub(crate) fn has_type(document: &Value, name: &str) -> bool
 pub(crate) fn text_of<'a>(document: &'a Value, name: &str) -> Option<&'a str>
     ensures { option_copied result ≡ text_under name.now (view document.now) }
 {
-    match document.get(name) {
-        Some(value) => value.as_str(),
-        None => None,
-    }
+    document.get(name)?.as_str()
 }
 
 /// The items of a member that is there and is a list.
 pub(crate) fn items_of<'a>(document: &'a Value, name: &str) -> Option<&'a Vec<Value>>
     ensures { option_map (λ items. items_view items.now.items) result ≡ items_under name.now (view document.now) }
 {
-    match document.get(name) {
-        Some(value) => value.as_array(),
-        None => None,
-    }
+    document.get(name)?.as_array()
 }
 
 /// A copy of the text that a value is.

@@ -12,18 +12,10 @@ use dep_params::Disposition;
 pub(crate) fn read_opening(disposition: &Disposition) -> Option<Opening>
     ensures { result ≡ spec.opening_of disposition.now }
 {
-    let Some(size) = positive(disposition.parameter(b"size")) else {
-        return None;
-    };
-    let Some(count) = positive(disposition.parameter(b"segment_count")) else {
-        return None;
-    };
-    let Some(segment_size) = positive(disposition.parameter(b"segment_size")) else {
-        return None;
-    };
-    let Some(digest) = promised(disposition.parameter(b"digest")) else {
-        return None;
-    };
+    let size = positive(disposition.parameter(b"size"))?;
+    let count = positive(disposition.parameter(b"segment_count"))?;
+    let segment_size = positive(disposition.parameter(b"segment_size"))?;
+    let digest = promised(disposition.parameter(b"digest"))?;
     Some(Opening {
         size,
         count,
@@ -36,20 +28,15 @@ pub(crate) fn read_opening(disposition: &Disposition) -> Option<Opening>
 fn positive(text: Option<&[u8]>) -> Option<u64>
     ensures { result ≡ spec.positive (option_copied text.entry) }
 {
-    match number(text) {
-        Some(number) if number > 0 => Some(number),
-        _ => None,
-    }
+    let number = number(text)?;
+    if number > 0 { Some(number) } else { None }
 }
 
 /// A number in decimal digits, cut at the greatest of 64 bits.
 pub(crate) fn number(text: Option<&[u8]>) -> Option<u64>
     ensures { result ≡ spec.number (option_copied text.entry) }
 {
-    let Some(text) = text else {
-        return None;
-    };
-    match decimal(text, u64::MAX) {
+    match decimal(text?, u64::MAX) {
         Number::NotDigits => None,
         Number::Above => Some(u64::MAX),
         Number::Value(number) => Some(number),
