@@ -125,6 +125,11 @@ pub fn load_digests<T: Statements>(
     if loaded.view.references.is_none() {
         return Ok(loaded);
     }
-    let uploads = hash_uploads(tx, alloc, running, loaded.view.uploads.as_slice())?;
-    Ok(loaded.with_uploads(uploads))
+    match hash_uploads(tx, alloc, running, loaded.view.uploads.as_slice()) {
+        Ok(uploads) => Ok(loaded.with_uploads(uploads)),
+        Err(fault) => {
+            drop(loaded);
+            Err(fault)
+        }
+    }
 }
