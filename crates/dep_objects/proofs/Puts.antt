@@ -106,10 +106,3 @@ described s n row metadata sound found read = go (finmap.get s.objects n) refl f
         let texts : metadata ≡ o.metadata = read ∙ ap (λ m. grouped (listed m)) (ap (λ x. option_map_or (λ (y : Object). y.metadata) x finmap.empty) is)
         ∙ grouped-listed o.metadata (λ name none. ((sound.objects n o is).names name [] none).1 refl) in
         λ i. Some (record { row = same i; metadata = texts i })
-
-pub none_described : (s : State) (n : ℕ) → ◌≡◌ {A = Option ObjectRow} None (option_map (object_row n) (finmap.get s.objects n)) → ◌≡◌ {A = Option DescribedObject} None (option_map (described_object n) (finmap.get s.objects n))
-none_described s n found = go (finmap.get s.objects n) found
-  where
-    go : (o : Option Object) → ◌≡◌ {A = Option ObjectRow} None (option_map (object_row n) o) → ◌≡◌ {A = Option DescribedObject} None (option_map (described_object n) o)
-    go None e = refl
-    go (Some o) e = absurd (cc)

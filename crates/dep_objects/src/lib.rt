@@ -9,6 +9,4 @@ mod objects;
 
 pub use clock::counters;
 pub use metadata::{append_metadata, set_metadata};
-pub use objects::{
-    DescribedObject, add_object, delete_object, describe, find_object, load_object, put_object,
-};
+pub use objects::{DescribedObject, add_object, delete_object, describe, find_object, put_object};

@@ -6,7 +6,7 @@ ghost use Rattle.dep_types.specs.Rows.{object_row};
 ghost use Rattle.dep_types.specs.Sound.{IsSound};
 ghost use Rattle.dep_row_maps.specs.TablesAre.{files_at, with_object, without_object};
 ghost use Rattle.dep_row_maps.specs.Clauses.{FromMaps, SeesState, ChangesMaps, Finds, ReadsMaps, WritesMaps};
-ghost use Rattle.dep_objects.specs.Objects.{HasRow, IsDescribed, object_of, described_object, PutsRow};
+ghost use Rattle.dep_objects.specs.Objects.{HasRow, IsDescribed, object_of, PutsRow};
 
 use crate::gathering::load_metadata;
 use dep_tables::{Statements, delete_metadata, insert_object};
@@ -34,24 +34,6 @@ pub fn describe<T: Statements>(
 {
     let metadata = load_metadata(tx, alloc, row.object)?;
     Ok(DescribedObject { row, metadata })
-}
-
-/// The object of this number, if there is one. It reads the object's own rows alone. A number of 2^63
-/// or more is a fault of the store.
-pub fn load_object<T: Statements>(
-    tx: &mut T,
-    alloc: Global,
-    object: u64,
-) -> Result<Option<DescribedObject>, StoreFault>
-    ensures does { Finds T.lenders T.state tx.old tx.new result
-        (λ s. IsSound s → IfOk result (λ found.
-        found ≡ option_map (described_object object) (map.get s.objects object))) }
-{
-    let Some(row) = dep_tables::find_object(tx, object)? else {
-        return Ok(None);
-    };
-    let described = describe(tx, alloc, row)?;
-    Ok(Some(described))
 }
 
 /// Reads an object of the state without its metadata and files: its row, if there is one. A number of 2^63 or more is a

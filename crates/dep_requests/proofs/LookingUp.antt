@@ -34,7 +34,7 @@ no_refusal (Some r) e = cc e
 module _ (config : Config) (s : State) (op : Operation) (loaded : LoadedView) where
   -- what was seen but for digests, once the rules before them have told
   pub looked_on : (o : Option Refusal) → loaded ≡ loaded_undigested s op.content (touched_by config op) → RefusesUndigested config loaded.view op o
-      → IsLookedUp config s op (record { loaded = loaded; refusal = o })
+      → IsLookedUp config s op loaded o
   looked_on o seen reported =
       let view = ap (λ (l : LoadedView). l.view) seen in
       record {
@@ -48,7 +48,7 @@ module _ (config : Config) (s : State) (op : Operation) (loaded : LoadedView) wh
     clock_seen = ap (λ (l : LoadedView). l.view.clock) same
 
     -- without references nothing is looked up
-    pub looked_at_none : is_some loaded.view.references ≡ false → IsLookedUp config s op (record { loaded = loaded; refusal = None })
+    pub looked_at_none : is_some loaded.view.references ≡ false → IsLookedUp config s op loaded None
     looked_at_none none = record {
       clock = clock_seen;
       refused = λ r is. cc is;
@@ -65,7 +65,7 @@ module _ (config : Config) (s : State) (op : Operation) (loaded : LoadedView) wh
       early_is : early ≡ refusal_before_room config (without_entries (in_state s)) op
       early_is = reported s kind (seen_unnamed s op.content (touched_by config op) loaded same some)
 
-      pub looked_early : is_some early ≡ true → IsLookedUp config s op (record { loaded = loaded; refusal = early })
+      pub looked_early : is_some early ≡ true → IsLookedUp config s op loaded early
       looked_early refuses =
           let it = found early refuses in
           record {
@@ -80,7 +80,7 @@ module _ (config : Config) (s : State) (op : Operation) (loaded : LoadedView) wh
           ∙ by_reference_elsewhere config op kind
           ∙ ap (uploads_in Service) in_op.1
 
-      pub looked_refused : is_some early ≡ false → (r : Refusal) → uploads_refusal (in_state s) loaded.uploads ≡ Some r → IsLookedUp config s op (record { loaded = loaded; refusal = Some r })
+      pub looked_refused : is_some early ≡ false → (r : Refusal) → uploads_refusal (in_state s) loaded.uploads ≡ Some r → IsLookedUp config s op loaded (Some r)
       looked_refused passes r refuses =
           let is = refused_by_uploads config s op in_op.0 r kind in_op.1 (sym early_is ∙ no_refusal early passes) (ap (uploads_refusal (in_state s)) (sym uploads_are) ∙ refuses) in
           record {

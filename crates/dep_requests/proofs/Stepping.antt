@@ -51,7 +51,6 @@ use Rattle.dep_row_maps.specs.TablesAre.{TablesAre}
 use Rattle.dep_row_maps.specs.Clauses.{ChangesWithin, SeesState}
 use Rattle.dep_views.specs.Seen.{file_at_path}
 use Rattle.dep_views.specs.declared.view.LoadedView.{LoadedView}
-use Rattle.dep_requests.specs.declared.performing.LookedUp.{LookedUp}
 use Rattle.dep_requests.specs.declared.performing.Ruled.{Ruled}
 use Rattle.dep_requests.specs.Performing.{ChangesNothing, IsDigestedFor, IsLookedUp, OnlyReads, Rules, Sees, SeesFor, row_for}
 
@@ -107,9 +106,9 @@ rules_seen config s op loaded ruling is rules =
     for (Do d) view = record { view = view; payload = ap (λ (l : LoadedView). l.payload) is }
 
 -- refused before any digest was taken
-pub refused_early : (config : Config) (s : State) (op : Operation) (looked : LookedUp) (r : Refusal) → IsLookedUp config s op looked → looked.refusal ≡ Some r
-    → Rules config s op (record { view = looked.loaded.view; payload = looked.loaded.payload; ruling = Refuse r })
-refused_early config s op looked r is e = record { clock = is.clock; ruling = is.refused r e; seen = tt }
+pub refused_early : (config : Config) (s : State) (op : Operation) (loaded : LoadedView) (looked : Option Refusal) (r : Refusal) → IsLookedUp config s op loaded looked → looked ≡ Some r
+    → Rules config s op (record { view = loaded.view; payload = loaded.payload; ruling = Refuse r })
+refused_early config s op loaded looked r is e = record { clock = is.clock; ruling = is.refused r e; seen = tt }
 
 -- how the reply to a request goes out
 abbrev pub delivery_for : State → Operation → Delivery

@@ -38,7 +38,6 @@ use Rattle.dep_views.specs.Seen.{loaded_undigested, loaded_view, loaded_with_dig
 use Rattle.dep_views.specs.declared.view.LoadedView.{LoadedView}
 use Rattle.dep_changes.specs.Known.{known_shown}
 use Rattle.dep_requests.specs.declared.performing.Done.{Done}
-use Rattle.dep_requests.specs.declared.performing.LookedUp.{LookedUp}
 use Rattle.dep_requests.specs.declared.performing.Ruled.{Ruled}
 
 -- the view shows the state truly, and so does the row of a payload file
@@ -67,11 +66,11 @@ IsDigestedFor config s op loaded = loaded ≡ loaded_with_digests s op.content (
 
 -- what was looked up before any digest was taken: a refusal is right, and where there is none all was seen truly but
 -- for digests
-pub record IsLookedUp (config : Config) (s : State) (op : Operation) (looked : LookedUp) : Type 0 where
-  pub clock : looked.loaded.view.clock ≡ s.clock
-  pub refused : (r : Refusal) → looked.refusal ≡ Some r → refusal config s op ≡ Some r
-  pub passed : looked.refusal ≡ None
-      → looked.loaded ≡ loaded_undigested s op.content (touched_by config op)
+pub record IsLookedUp (config : Config) (s : State) (op : Operation) (loaded : LoadedView)
+    (looked : Option Refusal) : Type 0 where
+  pub clock : loaded.view.clock ≡ s.clock
+  pub refused : (r : Refusal) → looked ≡ Some r → refusal config s op ≡ Some r
+  pub passed : looked ≡ None → loaded ≡ loaded_undigested s op.content (touched_by config op)
 
 -- nothing is changed where it is refused, or only asks to be shown
 abbrev pub OnlyReads : Ruling → Type 0

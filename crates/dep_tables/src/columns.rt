@@ -8,7 +8,7 @@ use sqlite::Row;
 use sqlite::types::ValueRef;
 
 /// What a column holds.
-#[derive(Clone, Copy, PartialEq, Eq)]
+#[derive(Clone, Copy)]
 pub enum ColumnKind {
     /// A number from 0 on.
     Number,

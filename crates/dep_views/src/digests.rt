@@ -125,6 +125,12 @@ pub fn load_digests<T: Statements>(
     if loaded.view.references.is_none() {
         return Ok(loaded);
     }
-    let uploads = hash_uploads(tx, alloc, running, loaded.view.uploads.as_slice())?;
-    Ok(loaded.with_uploads(uploads))
+    // With `?` what was loaded would be taken apart there, and not dropped by a call, which is proved once.
+    match hash_uploads(tx, alloc, running, loaded.view.uploads.as_slice()) {
+        Ok(uploads) => Ok(loaded.with_uploads(uploads)),
+        Err(fault) => {
+            drop(loaded);
+            Err(fault)
+        }
+    }
 }

@@ -1,29 +1,19 @@
 //! What a reply shows of the archive.
 
-ghost use Rattle.std.specs.Prelude.{⊤, IfSome};
+ghost use Rattle.std.specs.Prelude.{◌≡◌, ⊤, Some, None, IfSome};
 ghost use Rattle.dep_answers.specs.declared.read_set.ReadSet.TheVariants as read_set;
 ghost use Rattle.dep_objects.specs.Objects.{HasRow};
-ghost use Rattle.dep_views.specs.Shown.{MayReadShown, ReadsShown};
+ghost use Rattle.dep_views.specs.Shown.{MayFindRow, MayReadShown, ReadsShown, object_in, row_at};
 
-use crate::objects::{load_object_view, view_of};
+use crate::objects::view_of;
 use crate::segments::numbers_of;
 use dep_answers::{FileId, ReadSet, Shown};
 use dep_files::{find_file, load_files, load_sha512s};
-use dep_objects::{describe, find_object, load_object};
+use dep_objects::{describe, find_object};
 use dep_staging::{FoundUpload, load_upload};
 use dep_tables::Statements;
 use dep_types::{List, Metadata, ObjectRow, ObjectView, StoreFault};
 use std::alloc::Global;
-
-fn show_object<T: Statements>(tx: &mut T, alloc: Global, object: u64) -> Result<Shown, StoreFault>
-    ensures does { ReadsShown T.lenders T.state tx.old tx.new result
-        (read_set.Object object) (λ _. ⊤) }
-{
-    match load_object_view(tx, alloc, object)? {
-        Some(view) => Ok(Shown::Object(view)),
-        None => Ok(Shown::Nothing),
-    }
-}
 
 // The object of this row, with its files.
 fn show_listed<T: Statements>(
@@ -43,16 +33,6 @@ fn show_listed<T: Statements>(
     }))
 }
 
-fn show_files<T: Statements>(tx: &mut T, alloc: Global, object: u64) -> Result<Shown, StoreFault>
-    ensures does { ReadsShown T.lenders T.state tx.old tx.new result
-        (read_set.Files object) (λ _. ⊤) }
-{
-    match find_object(tx, object)? {
-        Some(row) => show_listed(tx, alloc, row),
-        None => Ok(Shown::Nothing),
-    }
-}
-
 // The object of this row, with its files and their SHA-512 values.
 fn show_hashed<T: Statements>(
     tx: &mut T,
@@ -70,39 +50,6 @@ fn show_hashed<T: Statements>(
         files,
         sha512s,
     }))
-}
-
-fn show_payload<T: Statements>(tx: &mut T, alloc: Global, object: u64) -> Result<Shown, StoreFault>
-    ensures does { ReadsShown T.lenders T.state tx.old tx.new result
-        (read_set.Payload object) (λ _. ⊤) }
-{
-    match find_object(tx, object)? {
-        Some(row) => show_hashed(tx, alloc, row),
-        None => Ok(Shown::Nothing),
-    }
-}
-
-fn show_row<T: Statements>(tx: &mut T, object: u64) -> Result<Shown, StoreFault>
-    ensures does { ReadsShown T.lenders T.state tx.old tx.new result
-        (read_set.ObjectRow object) (λ _. ⊤) }
-{
-    match find_object(tx, object)? {
-        Some(row) => Ok(Shown::ObjectRow(row)),
-        None => Ok(Shown::Nothing),
-    }
-}
-
-fn show_metadata<T: Statements>(tx: &mut T, alloc: Global, object: u64) -> Result<Shown, StoreFault>
-    ensures does { ReadsShown T.lenders T.state tx.old tx.new result
-        (read_set.Metadata object) (λ _. ⊤) }
-{
-    match load_object(tx, alloc, object)? {
-        Some(described) => Ok(Shown::Metadata {
-            object: described.row,
-            metadata: described.metadata,
-        }),
-        None => Ok(Shown::Nothing),
-    }
 }
 
 fn show_file<T: Statements>(tx: &mut T, id: FileId) -> Result<Shown, StoreFault>
@@ -128,26 +75,6 @@ fn show_upload<T: Statements>(tx: &mut T, alloc: Global, upload: u64) -> Result<
     }
 }
 
-// What a reply shows, where no row is known.
-fn read_shown<T: Statements>(
-    tx: &mut T,
-    alloc: Global,
-    read_set: &ReadSet,
-) -> Result<Shown, StoreFault>
-    ensures does { MayReadShown T.lenders T.state tx.old tx.new result read_set.now (λ _. ⊤) }
-{
-    match *read_set {
-        ReadSet::Nothing => Ok(Shown::Nothing),
-        ReadSet::Object(object) => show_object(tx, alloc, object),
-        ReadSet::Payload(object) => show_payload(tx, alloc, object),
-        ReadSet::Files(object) => show_files(tx, alloc, object),
-        ReadSet::ObjectRow(object) => show_row(tx, object),
-        ReadSet::Metadata(object) => show_metadata(tx, alloc, object),
-        ReadSet::File(id) => show_file(tx, id),
-        ReadSet::Upload(upload) => show_upload(tx, alloc, upload),
-    }
-}
-
 // What is told of the object of this row.
 fn show_rest<T: Statements>(tx: &mut T, alloc: Global, row: ObjectRow) -> Result<Shown, StoreFault>
     ensures does { ReadsShown T.lenders T.state tx.old tx.new result
@@ -169,6 +96,70 @@ fn show_texts<T: Statements>(tx: &mut T, alloc: Global, row: ObjectRow) -> Resul
     })
 }
 
+// The number of the object that is shown, or of which a part is.
+fn object_in(read_set: &ReadSet) -> Option<u64>
+    ensures { result ≡ object_in read_set.now }
+{
+    match *read_set {
+        ReadSet::Object(object)
+        | ReadSet::Payload(object)
+        | ReadSet::Files(object)
+        | ReadSet::ObjectRow(object)
+        | ReadSet::Metadata(object) => Some(object),
+        ReadSet::Nothing | ReadSet::File(_) | ReadSet::Upload(_) => None,
+    }
+}
+
+// The row of that object: the known one, which isn't read again, or the one that is found.
+fn row_of<T: Statements>(
+    tx: &mut T,
+    read_set: &ReadSet,
+    known: Option<ObjectRow>,
+) -> Result<Option<ObjectRow>, StoreFault>
+    ensures does { MayFindRow T.lenders T.state tx.old tx.new result read_set.now known }
+{
+    match (object_in(read_set), known) {
+        (Some(object), Some(row)) if row.object == object => Ok(Some(row)),
+        (Some(object), _) => find_object(tx, object),
+        (None, _) => Ok(None),
+    }
+}
+
+// What a reply shows of the object of this row, which is there.
+fn show_object<T: Statements>(
+    tx: &mut T,
+    alloc: Global,
+    read_set: &ReadSet,
+    row: ObjectRow,
+) -> Result<Shown, StoreFault>
+    ensures does { MayReadShown T.lenders T.state tx.old tx.new result read_set.now
+        (λ s. Some row ≡ row_at s read_set.now) }
+{
+    match *read_set {
+        ReadSet::Object(_) => show_rest(tx, alloc, row),
+        ReadSet::Payload(_) => show_hashed(tx, alloc, row),
+        ReadSet::Files(_) => show_listed(tx, alloc, row),
+        ReadSet::Metadata(_) => show_texts(tx, alloc, row),
+        _ => Ok(Shown::ObjectRow(row)),
+    }
+}
+
+// What a reply shows where no object is there, or none is asked for.
+fn show_other<T: Statements>(
+    tx: &mut T,
+    alloc: Global,
+    read_set: &ReadSet,
+) -> Result<Shown, StoreFault>
+    ensures does { MayReadShown T.lenders T.state tx.old tx.new result read_set.now
+        (λ s. None ≡ row_at s read_set.now) }
+{
+    match *read_set {
+        ReadSet::File(id) => show_file(tx, id),
+        ReadSet::Upload(upload) => show_upload(tx, alloc, upload),
+        _ => Ok(Shown::Nothing),
+    }
+}
+
 /// What a reply shows, read of the archive; nothing where nothing is there. Where the known row, which the archive has, is the
 /// object's, it is not read again. No content is read. A number of 2^63 or more is a fault of the store.
 pub fn load_shown<T: Statements>(
@@ -180,22 +171,8 @@ pub fn load_shown<T: Statements>(
     ensures does { MayReadShown T.lenders T.state tx.old tx.new result read_set.now
         (λ s. IfSome known (HasRow s)) }
 {
-    match (*read_set, known) {
-        (ReadSet::Object(object), Some(row)) if row.object == object => {
-            show_rest(tx, alloc, row)
-        }
-        (ReadSet::Payload(object), Some(row)) if row.object == object => {
-            show_hashed(tx, alloc, row)
-        }
-        (ReadSet::Files(object), Some(row)) if row.object == object => {
-            show_listed(tx, alloc, row)
-        }
-        (ReadSet::ObjectRow(object), Some(row)) if row.object == object => {
-            Ok(Shown::ObjectRow(row))
-        }
-        (ReadSet::Metadata(object), Some(row)) if row.object == object => {
-            show_texts(tx, alloc, row)
-        }
-        _ => read_shown(tx, alloc, read_set),
+    match row_of(tx, read_set, known)? {
+        Some(row) => show_object(tx, alloc, read_set, row),
+        None => show_other(tx, alloc, read_set),
     }
 }

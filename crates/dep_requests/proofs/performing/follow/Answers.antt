@@ -32,7 +32,7 @@ returns-in_ok-shown-in-Do-clause-map g c = record {
       let ruling = subst (λ (r : Ruling). IsRuling config s op r) c.in-Do.is rules.ruling in
       let seen = subst (λ (r : Ruling). SeesFor config s op c.args.ruled.now r) c.in-Do.is rules.seen in
       let carried = c.in_ok-shown-in-Do.ensures.map.done clean within ours s are config sound fit seen ruling in
-      accepted_then config s op (SeesState (g.T.Statements.state c.carry.new.tx)) c.delivery_at-delivery.result _ c.accept.result fit sound ruling.0 way carried c.accept.ensures;
+      accepted_then config s op (SeesState (g.T.Statements.state c.carry.new.tx)) c.delivery_at-delivery.result _ c.accept-performed.result fit sound ruling.0 way carried c.accept-performed.ensures;
   keeps = changes_ok c.in_ok-shown-in-Do.ensures.map.keeps;
 }
 
@@ -47,4 +47,4 @@ returns-in-Refuse-clause-unchanged g c only is_open clean ours = if_ok c.refused
 
 pub returns-in_ok-shown-in-Do-clause-unchanged : goal.returns-in_ok-shown-in-Do-clause-unchanged
 returns-in_ok-shown-in-Do-clause-unchanged g c only is_open clean ours =
-    if_ok c.accept.result (c.in_ok-shown-in-Do.ensures.unchanged (subst (λ (r : Ruling). OnlyReads r) c.in-Do.is only) is_open clean ours)
+    if_ok c.accept-performed.result (c.in_ok-shown-in-Do.ensures.unchanged (subst (λ (r : Ruling). OnlyReads r) c.in-Do.is only) is_open clean ours)

@@ -1,6 +1,5 @@
-use Rattle.std.proofs.Common.{◌∙◌, map, not, true, ap, sym, subst}
+use Rattle.std.proofs.Common.{◌∙◌, map, not, true, refl, ap, sym, subst}
 use Rattle.std.specs.List.{All}
-use Rattle.std.proofs.lemmas.Result.{IfOk-from_err}
 use Rattle.dep_operations.specs.Views.{upload_view}
 use Rattle.dep_operations.specs.declared.view.UploadView.{UploadView}
 use Rattle.dep_tables.proofs.Chains.{may_err, may_ok, may_put}
@@ -16,28 +15,25 @@ returns-then-is_none g c = record {
   };
 }
 
-pub returns : goal.returns
-returns g c = record {
+pub returns-in-Ok : goal.returns-in-Ok
+returns-in-Ok g c = record {
   map = record {
     found = λ clean inside ours s are is_open sound running.
-        let hashed = c.in_ok-uploads.ensures.map.found clean inside ours s are is_open sound running in (
+        let hashed = c.in-Ok.ensures.map.found clean inside ours s are is_open sound running in (
           hashed.0,
           λ content t same.
               let some = c.is_none.ensures ∙ ap not c.if-is_none.false in
               let reported = hashed.1 (subst (All (IsUndigested s)) (sym c.as_slice.ensures) (all_undigested s content t c.args.loaded same some)) in
-              hashed_all s content t c.args.loaded same c.in_ok-uploads.uploads c.with_uploads.result some (reported ∙ ap (map (λ (v : UploadView). upload_view true s v.upload)) c.as_slice.ensures) c.with_uploads.ensures,
+              hashed_all s content t c.args.loaded same c.in-Ok.uploads c.with_uploads.result some (reported ∙ ap (map (λ (v : UploadView). upload_view true s v.upload)) c.as_slice.ensures) c.with_uploads.ensures,
         );
-    keeps = may_ok c.in_ok-uploads.ensures.map.keeps;
+    keeps = may_ok c.in-Ok.ensures.map.keeps;
   };
 }
 
-pub returns-in_err-uploads : goal.returns-in_err-uploads
-returns-in_err-uploads g c = record {
+pub returns-in-Err : goal.returns-in-Err
+returns-in-Err g c = record {
   map = record {
-    found = λ clean inside ours s are is_open sound running. (
-      (c.hash_uploads.ensures.map.found clean inside ours s are is_open sound running).0,
-      IfOk-from_err c.from_residual.result _ c.from_residual.ensures.0,
-    );
-    keeps = may_err c.from_residual.ensures.0 c.in_err-uploads.ensures.map.keeps;
+    found = λ clean inside ours s are is_open sound running. ((c.in-Err.ensures.map.found clean inside ours s are is_open sound running).0, tt);
+    keeps = may_err refl c.in-Err.ensures.map.keeps;
   };
 }
