@@ -1,5 +1,5 @@
 -- What a look at the next request of a connection shows.
-use Rattle.std.proofs.Common.{◌≡◌, ◌⊎◌, inl, inr, ℕ, Bool, true, false, List, Option, get_or, Some, Result, Ok, Err, IfOk, MatchResult, refl, sym, ap, subst, ◌∙◌}
+use Rattle.std.proofs.Common.{◌≡◌, ◌⊎◌, inl, inr, ℕ, Bool, true, false, List, Option, get_or, None, Some, MatchOption, Result, Ok, Err, IfOk, MatchResult, refl, sym, ap, subst, ◌∙◌}
 use Rattle.std.specs.declared.alloc.AllocError.{AllocError}
 use Rattle.dep_types.specs.Conditions.{Condition}
 use Rattle.dep_head.specs.Head.{HeadParts}
@@ -12,7 +12,7 @@ use Rattle.dep_message.proofs.OneReading.{one_at}
 use Rattle.dep_hub.specs.Claims.{claim_of, has_to_wait, is_any_pending, waits_on}
 use Rattle.dep_hub.specs.Looks.{SeesHead, Shows, is_new, is_to_prepare}
 use Rattle.dep_hub.specs.Preparing.{IsLookedAt, names_uploads}
-use Rattle.dep_hub.specs.RepresentsOwing.{IsAnswerable, IsReady, KeepsBack, KeptBack, NextIsKeptBack, begins_to_prepare, begins_to_wait, behind_at, lacks_memory, waits_still}
+use Rattle.dep_hub.specs.RepresentsOwing.{IsAnswerable, IsReady, KeepsBack, KeptBack, NextIsAnswerable, NextIsKeptBack, begins_to_prepare, begins_to_wait, behind_at, lacks_memory, waits_still}
 use Rattle.dep_hub.specs.Numbers.{index_of}
 use Rattle.dep_hub.specs.Representing.{intake_of}
 use Rattle.dep_hub.specs.declared.claim.Claim.{Claim}
@@ -99,6 +99,11 @@ pub by_number : (n i : ℕ) (cs : List Connection) (c : Connection) → index_of
 by_number n i cs c index item P h reading there =
     subst (λ (r : Reading). P r (behind_at cs n)) (some_reading c.intake reading (sym (index_some n i cs c index item).1 ∙ there))
     (subst (λ (b : Behind). P c.intake b) (sym (behind_some n i cs c index item)) h)
+
+pub kept_number : (n i : ℕ) (cs : List Connection) (c : Connection) → index_of n cs ≡ Some i → c ≡ get_or cs i c → (kept : Option Behind)
+    → MatchOption kept (IsAnswerable cs c.intake c.behind) (KeptBack cs c.intake c.behind) → MatchOption kept (NextIsAnswerable cs n) (NextIsKeptBack cs n)
+kept_number n i cs c index item None free = by_number n i cs c index item (λ (r : Reading) (b : Behind). IsAnswerable cs r b) free
+kept_number n i cs c index item (Some now) kept = by_number n i cs c index item (λ (r : Reading) (b : Behind). KeptBack cs r b now) kept
 
 -- it waits still
 pub still_waits : (cs : List Connection) (reading : Reading) (was : Behind) → waits_on cs was ≡ true → KeptBack cs reading was was
