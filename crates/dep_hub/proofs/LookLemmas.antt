@@ -10,11 +10,12 @@ use Rattle.dep_message.specs.Stream.{Item, Request, Fault, Continue, FirstAt}
 use Rattle.dep_message.specs.declared.message.Message.{Message}
 use Rattle.dep_message.proofs.OneReading.{one_at}
 use Rattle.dep_hub.specs.Claims.{claim_of, has_to_wait, is_any_pending, waits_on}
+use Rattle.dep_exchange.specs.declared.next.Next.{Next}
 use Rattle.dep_hub.specs.Looks.{SeesHead, Shows, is_new, is_to_prepare}
 use Rattle.dep_hub.specs.Preparing.{IsLookedAt, names_uploads}
-use Rattle.dep_hub.specs.RepresentsOwing.{IsAnswerable, IsReady, KeepsBack, KeptBack, NextIsAnswerable, NextIsKeptBack, begins_to_prepare, begins_to_wait, behind_at, lacks_memory, waits_still}
+use Rattle.dep_hub.specs.RepresentsOwing.{IsAnswerable, IsReady, KeepsBack, KeptBack, NextIsAnswerable, NextIsKeptBack, RepliesOver, begins_to_prepare, begins_to_wait, behind_at, lacks_memory, waits_still}
 use Rattle.dep_hub.specs.Numbers.{index_of}
-use Rattle.dep_hub.specs.Representing.{intake_of}
+use Rattle.dep_hub.specs.Representing.{GoesOnAs, intake_of}
 use Rattle.dep_hub.specs.declared.claim.Claim.{Claim}
 use Rattle.dep_hub.specs.declared.connections.Connection.{Connection}
 use Rattle.dep_hub.specs.declared.hub.Hub.{Hub}
@@ -121,3 +122,14 @@ kept_same {A} old new n b same kept = subst (λ (h : Hub A). NextIsKeptBack h.co
 pub keeps_same : {A : Type 0} (condition : A → Condition) (old mid new : Hub A) (n : ℕ) (taken : Option (List ℕ)) (failures : ℕ) → mid ≡ old
     → KeepsBack condition taken taken failures failures mid new n → KeepsBack condition taken taken failures failures old new n
 keeps_same {A} condition old mid new n taken failures same k = subst (λ (h : Hub A). KeepsBack condition taken taken failures failures h new n) same k
+
+pub goes_same : {A : Type 0} (condition : A → Condition) (old mid new : Hub A) → mid ≡ old → GoesOnAs condition mid new → GoesOnAs condition old new
+goes_same {A} condition old mid new same goes = subst (λ (h : Hub A). GoesOnAs condition h new) same goes
+
+pub turn_same : {A : Type 0} (old mid new : Hub A) → mid ≡ old → new.last_turn ≡ mid.last_turn → new.last_turn ≡ old.last_turn
+turn_same {A} old mid new same turn = turn ∙ ap (λ (h : Hub A). h.last_turn) same
+
+pub replies_same : {A : Type 0} (condition : A → Condition) (old mid new : Hub A) (n moment : ℕ) (next : Next) (taken takes : Option (List ℕ)) (failures failures_after : ℕ) → mid ≡ old
+    → RepliesOver condition taken takes failures failures_after mid new n moment next → RepliesOver condition taken takes failures failures_after old new n moment next
+replies_same {A} condition old mid new n moment next taken takes failures failures_after same r =
+    subst (λ (h : Hub A). RepliesOver condition taken takes failures failures_after h new n moment next) same r
