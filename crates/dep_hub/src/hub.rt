@@ -11,8 +11,8 @@ use crate::connections::{ConnId, Connection, Place, index_among};
 use crate::faults::{ConnectFault, HubFault};
 use crate::keeping::{kept_by, look_at};
 use crate::pending::{
-    is_any_pending, is_any_waiting, is_awaited, next_prepared, still_pending,
-    still_waiting, waits_on,
+    is_any_pending, is_any_waiting, is_awaited, next_prepared, still_pending, still_waiting,
+    waits_on,
 };
 use crate::preparing::prepare;
 use crate::rest::{Behind, behind_of};
