@@ -7,7 +7,6 @@ ghost use Rattle.dep_hub.specs.Preparing.{HasTurn, HaveAtMost, IsGreatestBelow, 
 use crate::claim::{Claim, Files};
 use crate::connections::Connection;
 use crate::rest::Behind;
-use dep_answers::StoredFile;
 
 /// Whether a content is being sent to one of them, or a request of one waits.
 pub(crate) fn is_any_pending(connections: &[Connection]) -> bool
@@ -166,13 +165,9 @@ pub(crate) fn is_awaited(connections: &[Connection], behind: Behind) -> bool
     ensures { result ≡ is_awaited_by connections.now behind }
 {
     match behind {
-        Behind::Content(rest) => any_waits_to_take(connections, rest.file),
+        Behind::Content(rest) => {
+            has_to_wait(connections, Claim::Reads(rest.file.object, rest.file.file))
+        }
         _ => false,
     }
-}
-
-fn any_waits_to_take(connections: &[Connection], it: StoredFile) -> bool
-    ensures { result ≡ spec.any_waits_to_take connections.now it.object it.file }
-{
-    connections.iter().any(|connection| waits_to_take(it.object, it.file, connection.behind))
 }
