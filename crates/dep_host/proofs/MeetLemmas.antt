@@ -1,5 +1,6 @@
 -- What a host makes of what comes to it.
 use Rattle.std.proofs.Common.{◌≡◌, ◌⊎◌, inl, inr, ◌<◌, ◌+◌, ℕ, Bool, true, false, List, [], ◌∷◌, ◌++◌, Option, None, Some, is_some, refl, sym, ap, subst, ◌∙◌, length, set, IfSome, arith}
+use Rattle.std.specs.Prelude.{IsErrOf, IsNone}
 use Rattle.std.specs.Option.{option_map}
 use Rattle.std.specs.declared.result.Result.{Result}
 use Rattle.std.specs.declared.result.Result.TheVariants.{Ok, Err}
@@ -30,7 +31,9 @@ use Rattle.dep_hub.specs.Representing.{IsClean, IsHonest}
 use Rattle.dep_hub.specs.Holding.{RepresentsHolding}
 use Rattle.dep_hub.specs.RepresentsOwing.{behind_at}
 use Rattle.dep_host.specs.Hosting.{HostAction, IsEmpty, Position, Steps, position, slot_at, refused, comes, StandsStill}
-use Rattle.dep_host.specs.Meeting.{IsOffer, MayCall, IsShutBy, MayEnd, Stops, Wakes, MayRefuse, TurnsAway, Admits, Meets, refusal_for, refusal_of, shut_by, wakes, lets_in, turns_away, makes_round, stops, IsMet, begins, goes_on, all_given, Met}
+use Rattle.dep_hub.specs.declared.faults.ConnectFault.{ConnectFault}
+use Rattle.dep_hub.specs.declared.faults.ConnectFault.TheVariants as fault
+use Rattle.dep_host.specs.Meeting.{IsOffer, MayCall, IsShutBy, MayEnd, Stops, Wakes, MayRefuse, IsFull, TurnsAway, Admits, Meets, refusal_for, refusal_of, rejection_for, shut_by, wakes, lets_in, turns_away, makes_round, stops, IsMet, begins, goes_on, all_given, Met}
 use Rattle.dep_slot.specs.Notes.{Note, Grows}
 use Rattle.dep_host.specs.Rounds.{IsReported, EndsInTime, is_overdue}
 use Rattle.dep_slot.proofs.PhaseLemmas.{still_same}
@@ -135,6 +138,11 @@ given_more old new last calls ended.Spent more g = g
 seconds_more : {R K S : Type 0} (calls : List (Call R K S)) (call : Call R K S) → seconds_in (calls ++ call ∷ []) ≡ seconds_in calls ++ seconds_of call.event
 seconds_more {R = R} {K = K} {S = S} calls call =
     flat_map-append (λ (c : Call R K S). seconds_of c.event) calls (call ∷ []) ∙ ap (λ (l : List ℕ). seconds_in calls ++ l) (append-nil (seconds_of call.event))
+
+-- a client may be rejected for whom the hub opens no connection
+pub hub_refuses : {T A R K S : Type 0} (p : Host A R K S) (client : Client R K S) (f : ConnectFault) → IsNone p.shut → (IsErrOf {T = T} (Err f) fault.Full → IsFull p.hub) → MayRefuse p client (rejection_for f)
+hub_refuses p client fault.Full none full = (none, inr (full refl))
+hub_refuses p client fault.Memory none full = none
 
 module _ {A R K S : Type 0} (condition : A → Condition) (unread : R → Option (List ℕ)) (taken : K → Option (List ℕ)) (held : S → Option (List ℕ)) where
   wakes_there : (p q : Host A R K S) (at : ℕ) (r w : Bool) (o : Option (Slot R K S)) → slot_at at p.slots.items ≡ o → Wakes p q at r w → Steps condition unread taken held (position p) [] (position q)

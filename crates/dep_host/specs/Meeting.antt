@@ -11,6 +11,8 @@ use Rattle.dep_exchange.specs.Shut.{ReportsOpen}
 use Rattle.dep_exchange.specs.ArchiveCalls.{CallLog, Asked, WorkedAhead, Runs, FailsToReport}
 use Rattle.dep_hub.specs.WorkingAhead.{RestsAhead}
 use Rattle.dep_hub.specs.Numbers.{most_connections, last_number}
+use Rattle.dep_hub.specs.declared.faults.ConnectFault.{ConnectFault}
+use Rattle.dep_hub.specs.declared.faults.ConnectFault.TheVariants as fault
 use Rattle.dep_hub.specs.declared.hub.Hub.{Hub}
 use Rattle.dep_slot.specs.declared.slot.Slot.{Slot}
 use Rattle.dep_slot.specs.declared.slot.Time.{Time}
@@ -103,12 +105,17 @@ MayRefuse p client refusal.Memory = IsNone p.shut
 MayRefuse p client refusal.Shut = IsShutBy p.shut cause.Store
 MayRefuse p client refusal.Stopped = IsShutBy p.shut cause.Stop
 
--- why a client is rejected where no place is offered
+-- why a client is rejected by a host that is shut
 abbrev pub refusal_for : Cause → Rejection
 refusal_for cause.Store = refusal.Shut
 refusal_for cause.Stop = refusal.Stopped
 
--- the same, of a host that isn't shut for want of a place
+-- why a client is rejected for whom the hub opens no connection
+abbrev pub rejection_for : ConnectFault → Rejection
+rejection_for fault.Full = refusal.Full
+rejection_for fault.Memory = refusal.Memory
+
+-- why a client is rejected where no place is offered, also by a host that isn't shut, for want of a place
 abbrev pub refusal_of : Option Shut → Rejection
 refusal_of None = refusal.Full
 refusal_of (Some shut) = refusal_for shut.cause

@@ -2,10 +2,10 @@
 ghost use Rattle.std.specs.Prelude.{◌≡◌, ◌≤◌, ℕ, None, length, get_or, IfOk};
 
 use crate::ending::{Cause, Shut};
-use crate::events::{comes_from, origin, reject};
+use crate::events::{count_from, origin, reject, rejection_for};
 use crate::place::{is_read, unfinished};
 use crate::share::Share;
-use dep_hub::{Archive, ConnectFault, Hub};
+use dep_hub::{Archive, Hub};
 use dep_outbox::{Sink, Source, Spool};
 use dep_slot::{
     Client, Closing, HostLog, Limits, ReadBuffer, Rejection, Slot, Time, Turn, TurnOutcome,
@@ -222,8 +222,7 @@ impl<A: Archive, R: Source + Drop, K: Sink + Drop, S: Spool + Drop> Host<A, R, K
         }
         let connection = match self.hub.connect() {
             Ok(connection) => connection,
-            Err(ConnectFault::Full) => return Err(reject(client, Rejection::Full, log)),
-            Err(ConnectFault::Memory) => return Err(reject(client, Rejection::Memory, log)),
+            Err(fault) => return Err(reject(client, rejection_for(fault), log)),
         };
         log.opened(connection, client.address);
         self.end = self.end.max(at + 1);
@@ -236,10 +235,11 @@ impl<A: Archive, R: Source + Drop, K: Sink + Drop, S: Spool + Drop> Host<A, R, K
         ensures { result ≡ slots_from (origin address) self.now.slots.items }
     {
         let from = origin(address);
-        self.slots
-            .iter()
-            .filter(|slot| comes_from(*slot, from))
-            .count()
+        let mut count = 0;
+        for at in 0..self.end {
+            count += count_from(&self.slots[at], from);
+        }
+        count
     }
 
     /// Takes note that a socket may be ready.

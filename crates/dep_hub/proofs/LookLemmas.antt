@@ -1,5 +1,5 @@
 -- What a look at the next request of a connection shows.
-use Rattle.std.proofs.Common.{◌≡◌, ◌⊎◌, inl, inr, ℕ, Bool, true, false, List, Option, get_or, Some, Result, Ok, Err, IfOk, MatchResult, refl, sym, ap, subst, ◌∙◌}
+use Rattle.std.proofs.Common.{◌≡◌, ◌⊎◌, inl, inr, ℕ, Bool, true, false, List, Option, get_or, None, Some, MatchOption, Result, Ok, Err, IfOk, MatchResult, refl, sym, ap, subst, ◌∙◌}
 use Rattle.std.specs.declared.alloc.AllocError.{AllocError}
 use Rattle.dep_types.specs.Conditions.{Condition}
 use Rattle.dep_head.specs.Head.{HeadParts}
@@ -10,11 +10,12 @@ use Rattle.dep_message.specs.Stream.{Item, Request, Fault, Continue, FirstAt}
 use Rattle.dep_message.specs.declared.message.Message.{Message}
 use Rattle.dep_message.proofs.OneReading.{one_at}
 use Rattle.dep_hub.specs.Claims.{claim_of, has_to_wait, is_any_pending, waits_on}
+use Rattle.dep_exchange.specs.declared.next.Next.{Next}
 use Rattle.dep_hub.specs.Looks.{SeesHead, Shows, is_new, is_to_prepare}
 use Rattle.dep_hub.specs.Preparing.{IsLookedAt, names_uploads}
-use Rattle.dep_hub.specs.RepresentsOwing.{IsAnswerable, IsReady, KeepsBack, KeptBack, NextIsKeptBack, begins_to_prepare, begins_to_wait, behind_at, lacks_memory, waits_still}
+use Rattle.dep_hub.specs.RepresentsOwing.{IsAnswerable, IsReady, KeepsBack, KeptBack, NextIsAnswerable, NextIsKeptBack, RepliesOver, begins_to_prepare, begins_to_wait, behind_at, lacks_memory, waits_still}
 use Rattle.dep_hub.specs.Numbers.{index_of}
-use Rattle.dep_hub.specs.Representing.{intake_of}
+use Rattle.dep_hub.specs.Representing.{GoesOnAs, intake_of}
 use Rattle.dep_hub.specs.declared.claim.Claim.{Claim}
 use Rattle.dep_hub.specs.declared.connections.Connection.{Connection}
 use Rattle.dep_hub.specs.declared.hub.Hub.{Hub}
@@ -100,6 +101,11 @@ by_number n i cs c index item P h reading there =
     subst (λ (r : Reading). P r (behind_at cs n)) (some_reading c.intake reading (sym (index_some n i cs c index item).1 ∙ there))
     (subst (λ (b : Behind). P c.intake b) (sym (behind_some n i cs c index item)) h)
 
+pub kept_number : (n i : ℕ) (cs : List Connection) (c : Connection) → index_of n cs ≡ Some i → c ≡ get_or cs i c → (kept : Option Behind)
+    → MatchOption kept (IsAnswerable cs c.intake c.behind) (KeptBack cs c.intake c.behind) → MatchOption kept (NextIsAnswerable cs n) (NextIsKeptBack cs n)
+kept_number n i cs c index item None free = by_number n i cs c index item (λ (r : Reading) (b : Behind). IsAnswerable cs r b) free
+kept_number n i cs c index item (Some now) kept = by_number n i cs c index item (λ (r : Reading) (b : Behind). KeptBack cs r b now) kept
+
 -- it waits still
 pub still_waits : (cs : List Connection) (reading : Reading) (was : Behind) → waits_on cs was ≡ true → KeptBack cs reading was was
 still_waits cs reading (Waits claim) e = waits_still claim refl refl e
@@ -116,3 +122,14 @@ kept_same {A} old new n b same kept = subst (λ (h : Hub A). NextIsKeptBack h.co
 pub keeps_same : {A : Type 0} (condition : A → Condition) (old mid new : Hub A) (n : ℕ) (taken : Option (List ℕ)) (failures : ℕ) → mid ≡ old
     → KeepsBack condition taken taken failures failures mid new n → KeepsBack condition taken taken failures failures old new n
 keeps_same {A} condition old mid new n taken failures same k = subst (λ (h : Hub A). KeepsBack condition taken taken failures failures h new n) same k
+
+pub goes_same : {A : Type 0} (condition : A → Condition) (old mid new : Hub A) → mid ≡ old → GoesOnAs condition mid new → GoesOnAs condition old new
+goes_same {A} condition old mid new same goes = subst (λ (h : Hub A). GoesOnAs condition h new) same goes
+
+pub turn_same : {A : Type 0} (old mid new : Hub A) → mid ≡ old → new.last_turn ≡ mid.last_turn → new.last_turn ≡ old.last_turn
+turn_same {A} old mid new same turn = turn ∙ ap (λ (h : Hub A). h.last_turn) same
+
+pub replies_same : {A : Type 0} (condition : A → Condition) (old mid new : Hub A) (n moment : ℕ) (next : Next) (taken takes : Option (List ℕ)) (failures failures_after : ℕ) → mid ≡ old
+    → RepliesOver condition taken takes failures failures_after mid new n moment next → RepliesOver condition taken takes failures failures_after old new n moment next
+replies_same {A} condition old mid new n moment next taken takes failures failures_after same r =
+    subst (λ (h : Hub A). RepliesOver condition taken takes failures failures_after h new n moment next) same r

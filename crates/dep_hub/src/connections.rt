@@ -47,6 +47,13 @@ pub(crate) struct Connection {
     pub behind: Behind,
 }
 
+/// A connection, and where it stands in the list.
+#[derive(Clone, Copy)]
+pub(crate) struct Place {
+    pub connection: ConnId,
+    pub index: usize,
+}
+
 /// Where a connection stands in the list.
 pub(crate) fn index_among(connections: &[Connection], id: ConnId) -> Option<usize>
     ensures value { result ≡ index_of id connections.now }

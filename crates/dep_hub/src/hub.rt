@@ -7,12 +7,12 @@ ghost use Rattle.dep_exchange.specs.Records.{Connect, Close, Record, World, Run,
 ghost use Rattle.dep_hub.specs.Claims.{is_any_pending, is_any_waiting};
 ghost use Rattle.dep_hub.specs.Numbers.{Ascends, Ascends-prop, HasPlace, most_connections, last_number};
 
-use crate::connections::{ConnId, Connection, index_among};
+use crate::connections::{ConnId, Connection, Place, index_among};
 use crate::faults::{ConnectFault, HubFault};
-use crate::keeping::{Look, look_at};
+use crate::keeping::{kept_by, look_at};
 use crate::pending::{
-    has_to_wait, is_any_pending, is_any_waiting, is_awaited, next_prepared, still_pending,
-    still_waiting, waits_on,
+    is_any_pending, is_any_waiting, is_awaited, next_prepared, still_pending, still_waiting,
+    waits_on,
 };
 use crate::preparing::prepare;
 use crate::rest::{Behind, behind_of};
@@ -251,7 +251,11 @@ impl<A: Archive> Hub<A> {
             self.keep_back(connection, i, behind);
             return None;
         }
-        Some(self.answer_at(connection, i, moment, out, log))
+        let place = Place {
+            connection,
+            index: i,
+        };
+        Some(self.answer_at(place, moment, out, log))
     }
 
     // What is behind the last reply of a connection from now on, if no further item is answered.
@@ -267,16 +271,8 @@ impl<A: Archive> Hub<A> {
         if waits_on(self.connections.as_slice(), kept.behind) {
             return Some(kept.behind);
         }
-        match look_at(&self.config, self.is_busy, &mut self.connections[i]) {
-            Look::Kept(behind) => Some(behind),
-            Look::Free => None,
-            Look::Claims(claim) => {
-                if has_to_wait(self.connections.as_slice(), claim) {
-                    return Some(Behind::Waits(claim));
-                }
-                None
-            }
-        }
+        let look = look_at(&self.config, self.is_busy, &mut self.connections[i]);
+        kept_by(self.connections.as_slice(), look)
     }
 
     // Keeps the next request of a connection back: this is behind its last reply from now on.
@@ -298,24 +294,23 @@ impl<A: Archive> Hub<A> {
     // Answers the next item of a connection, which isn't kept back.
     fn answer_at<O: Outlet, L: AccessLog>(
         &mut self,
-        connection: ConnId,
-        i: usize,
+        place: Place,
         moment: Moment,
         out: &mut O,
         log: &mut L,
     ) -> Next
-        requires index { index_of connection self.old.connections.items ≡ Some i }
-        requires within { i < length self.old.connections.items }
-        requires free { NextIsAnswerable self.old.connections.items connection }
+        requires index { index_of place.connection self.old.connections.items ≡ Some place.index }
+        requires within { place.index < length self.old.connections.items }
+        requires free { NextIsAnswerable self.old.connections.items place.connection }
         ensures goes { GoesOnAs A.condition self.old self.new }
         ensures there { (result ≢ Next.NoSuch)
-            × IsSome (intake_of self.new.connections.items connection) }
-        ensures unbroken { behind_at self.new.connections.items connection ≢ Behind.Broken }
+            × IsSome (intake_of self.new.connections.items place.connection) }
+        ensures unbroken { behind_at self.new.connections.items place.connection ≢ Behind.Broken }
         ensures replies { RepliesOver A.condition (O.taken out.old) (O.taken out.new)
-            (O.failures out.old) (O.failures out.new) self.old self.new connection moment result }
+            (O.failures out.old) (O.failures out.new) self.old self.new place.connection moment result }
         ensures turn { self.new.last_turn ≡ self.old.last_turn }
     {
-        let kept = &mut self.connections[i];
+        let kept = &mut self.connections[place.index];
         let context = Context {
             site: &self.config,
             moment,

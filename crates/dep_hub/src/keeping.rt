@@ -1,14 +1,17 @@
 //! Requests that are kept back.
-ghost use Rattle.std.specs.Prelude.{◌≡◌, ◌⊎◌, List, false, true, IfOk, MatchResult};
+ghost use Rattle.std.specs.Prelude.{◌≡◌, ◌⊎◌, List, false, true, IfOk, MatchOption, MatchResult};
 ghost use Rattle.dep_message.specs.Giving.{HasFirstHead};
+ghost use Rattle.dep_message.specs.Places.{Reading};
 ghost use Rattle.dep_hub.specs.Claims.{is_any_pending};
 ghost use Rattle.dep_hub.specs.Looks.{SeesHead, Shows, is_new, is_to_prepare as spec_is_to_prepare};
-ghost use Rattle.dep_hub.specs.RepresentsOwing.{IsReady};
+ghost use Rattle.dep_hub.specs.RepresentsOwing.{IsAnswerable, IsReady, KeptBack};
 ghost use Rattle.dep_hub.specs.declared.connections.Connection.{Connection as AConnection};
+ghost use Rattle.dep_hub.specs.declared.rest.Behind.{Behind as ABehind};
 ghost use Rattle.dep_hub.specs.declared.rest.Behind.TheVariants.{Nothing};
 
 use crate::claim::{Claim, claim_of};
 use crate::connections::Connection;
+use crate::pending::has_to_wait;
 use crate::preparing::MOST_STEPS;
 use crate::rest::Behind;
 use crate::uploads::names_uploads;
@@ -66,7 +69,25 @@ pub(crate) fn look_at(site: &Site, is_busy: bool, connection: &mut Connection) -
     }
 }
 
-// The same where the next request was looked at before.
+/// What is behind the last reply from now on by what a look shows, if the next item isn't answered.
+pub(crate) fn kept_by(connections: &[Connection], look: Look) -> Option<Behind>
+    ensures { (reading : Reading) (was : ABehind) → Shows connections.now reading was look
+        → MatchOption result (IsAnswerable connections.now reading was)
+        (KeptBack connections.now reading was) }
+{
+    match look {
+        Look::Kept(behind) => Some(behind),
+        Look::Free => None,
+        Look::Claims(claim) => {
+            if has_to_wait(connections, claim) {
+                return Some(Behind::Waits(claim));
+            }
+            None
+        }
+    }
+}
+
+// What a look shows where the next request was looked at before.
 fn look_again(site: &Site, is_busy: bool, was: Behind, intake: &mut Intake) -> Look
     requires ready { IsReady was }
     requires seen { is_new was ≡ false }

@@ -7,15 +7,17 @@ ghost use Rattle.dep_hub.specs.Preparing.{HasTurn, HaveAtMost, IsGreatestBelow, 
 use crate::claim::{Claim, Files};
 use crate::connections::Connection;
 use crate::rest::Behind;
-use dep_answers::StoredFile;
 
 /// Whether a content is being sent to one of them, or a request of one waits.
 pub(crate) fn is_any_pending(connections: &[Connection]) -> bool
     ensures { result ≡ spec.is_any_pending connections.now }
 {
-    connections
-        .iter()
-        .any(|connection| is_pending(connection.behind))
+    for connection in connections {
+        if is_pending(connection.behind) {
+            return true;
+        }
+    }
+    false
 }
 
 /// The same where a connection has come to this, and before that nothing was pending, or something was.
@@ -37,9 +39,12 @@ pub(crate) fn still_pending(connections: &[Connection], before: bool, behind: Be
 pub(crate) fn is_any_waiting(connections: &[Connection]) -> bool
     ensures { result ≡ spec.is_any_waiting connections.now }
 {
-    connections
-        .iter()
-        .any(|connection| is_waiting(connection.behind))
+    for connection in connections {
+        if is_waiting(connection.behind) {
+            return true;
+        }
+    }
+    false
 }
 
 /// The same where no request waits that didn't before.
@@ -116,9 +121,12 @@ fn is_pending(behind: Behind) -> bool
 pub(crate) fn has_to_wait(connections: &[Connection], claim: Claim) -> bool
     ensures { result ≡ spec.has_to_wait connections.now claim }
 {
-    connections
-        .iter()
-        .any(|connection| is_in_the_way(claim, connection.behind))
+    for connection in connections {
+        if is_in_the_way(claim, connection.behind) {
+            return true;
+        }
+    }
+    false
 }
 
 /// Whether a request that waits has to wait still.
@@ -166,13 +174,9 @@ pub(crate) fn is_awaited(connections: &[Connection], behind: Behind) -> bool
     ensures { result ≡ is_awaited_by connections.now behind }
 {
     match behind {
-        Behind::Content(rest) => any_waits_to_take(connections, rest.file),
+        Behind::Content(rest) => {
+            has_to_wait(connections, Claim::Reads(rest.file.object, rest.file.file))
+        }
         _ => false,
     }
-}
-
-fn any_waits_to_take(connections: &[Connection], it: StoredFile) -> bool
-    ensures { result ≡ spec.any_waits_to_take connections.now it.object it.file }
-{
-    connections.iter().any(|connection| waits_to_take(it.object, it.file, connection.behind))
 }

@@ -130,7 +130,7 @@ fn read_behind<F: Read + Seek>(
     into: &mut Vec<u8>,
 ) -> Result<(), SpoolFailed>
     ensures read { OnOk result (vec_len into.new ≡ vec_len into.old + count) }
-    ensures same { OnErr result (into.new.items ≡ into.old.items) }
+    ensures same { OnErr result (vec_len into.new ≡ vec_len into.old) }
 {
     let before = into.len();
     let Some(whole) = before.checked_add(count as usize) else {

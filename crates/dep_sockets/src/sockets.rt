@@ -56,17 +56,6 @@ impl fmt::Display for SocketFault {
 
 impl Error for SocketFault {}
 
-impl From<AllocError> for SocketFault {
-    ghost use Rattle.std.specs.Prelude.{◌≡◌};
-    ghost use Rattle.dep_sockets.specs.declared.sockets.SocketFault.TheVariants.{Memory};
-
-    ghost from_gives = { λ _ fault. fault ≡ Memory };
-
-    fn from(_error: AllocError) -> SocketFault {
-        SocketFault::Memory
-    }
-}
-
 /// Which kind of event is next.
 #[derive(Clone, Copy)]
 enum EventKind {
@@ -173,7 +162,10 @@ impl<'a, R: Files + Net + Clock> Sockets<'a, R> {
         if self.poll.poll(&mut self.polled, Some(nap)).is_err() {
             return Err(SocketFault::Poll);
         }
-        self.is_waited_for |= note_all(&self.polled, LISTENER, &mut self.ready)?;
+        let Ok(is_waited_for) = note_all(&self.polled, LISTENER, &mut self.ready) else {
+            return Err(SocketFault::Memory);
+        };
+        self.is_waited_for |= is_waited_for;
         self.look = LastLook::at(self.elapsed().as_micros());
         Ok(())
     }
@@ -182,7 +174,9 @@ impl<'a, R: Files + Net + Clock> Sockets<'a, R> {
     fn let_in(&mut self, vacancy: Option<usize>, count: usize) -> Option<SocketClient<'a, R>> {
         match vacancy {
             Some(at) if self.is_waited_for && self.remaining > 0 && count < MOST_SEATS => {
-                let (stream, address) = self.accept()?;
+                let Some((stream, address)) = self.accept() else {
+                    return None;
+                };
                 self.stage = EventKind::LettingIn(count + 1);
                 self.remaining = self.remaining.saturating_sub(1);
                 self.slot(stream, address, at)
@@ -205,9 +199,13 @@ impl<'a, R: Files + Net + Clock> Sockets<'a, R> {
         if registry.register(&mut stream, Token(at), interest).is_err() {
             return None;
         }
-        let (source, sink) = halves(self.alloc, stream, &self.open).ok()?;
-        let wire = Wire::new(self.alloc, sink, FileSpool::new(self.spools));
-        Some(Client::new(source, wire, address.ip()))
+        match halves(self.alloc, stream, &self.open) {
+            Ok((source, sink)) => {
+                let wire = Wire::new(self.alloc, sink, FileSpool::new(self.spools));
+                Some(Client::new(source, wire, address.ip()))
+            }
+            Err(AllocError) => None,
+        }
     }
 
     /// The next client that waits. Where the system gives none, as for want of descriptors, it is asked again in

@@ -1,13 +1,15 @@
-use Rattle.std.proofs.Common.{◌≡◌, None, refl, sym, subst, [], ◌∷◌, inr, ◌∙◌, arith, rules}
+use Rattle.std.proofs.Common.{◌≡◌, None, refl, sym, subst, [], ◌∷◌, ◌∙◌, arith}
 use Rattle.std.specs.Io.KnownBytes.{IsAtEnd}
 use Rattle.dep_exchange.specs.Records.{Live}
 use Rattle.dep_hub.specs.Holding.{LineTransition}
 use Rattle.dep_outbox.specs.Wires.{reported}
 use Rattle.dep_slot.specs.Notes.{Grows, LetIn}
-use Rattle.dep_slot.specs.declared.log.Rejection.TheVariants.{Address, Full, Memory}
+use Rattle.dep_slot.specs.declared.log.Rejection.{Rejection}
+use Rattle.dep_slot.specs.declared.log.Rejection.TheVariants.{Address}
+use Rattle.dep_host.specs.Meeting.{MayRefuse}
 use Rattle.dep_hub.specs.Representing.{intake_of}
 use Rattle.dep_host.proofs.HostLemmas.{nothing_behind, untouched, unopened, stays_same, stays_set}
-use Rattle.dep_host.proofs.MeetLemmas.{turned}
+use Rattle.dep_host.proofs.MeetLemmas.{hub_refuses, turned}
 use Rattle.dep_host.proofs.host.Host.admit.Goals as goal
 
 pub returns-then-slots_from-self : goal.returns-then-slots_from-self
@@ -19,22 +21,13 @@ returns-then-slots_from-self g c =
       noted = c.reject.ensures.noted;
     })
 
-pub returns-in-Err-Full : goal.returns-in-Err-Full
-returns-in-Err-Full g c =
-    turned g.A.Archive.condition g.R.Source.unread g.K.Sink.taken g.S.Spool.held g.L.HostLog.notes _ _ _ _ c.args.at c.args.client Full _ c.reject-in-Err-Full.ensures.same (record {
-      keeps = unopened g.A.Archive.condition g.R.Source.unread g.K.Sink.taken g.S.Spool.held _ _ refl c.in-Err-Full.ensures.kept c.connect.ensures.behind c.in-Err-Full.ensures.holding c.connect.ensures.store c.connect.ensures.config refl refl;
-      may = (c.requires.vacant.2, inr (c.in-Err-Full.ensures.full (search rules)));
+pub returns-in-Err : goal.returns-in-Err
+returns-in-Err g c =
+    turned g.A.Archive.condition g.R.Source.unread g.K.Sink.taken g.S.Spool.held g.L.HostLog.notes _ _ _ _ c.args.at c.args.client c.rejection_for.result _ c.reject-in-Err.ensures.same (record {
+      keeps = unopened g.A.Archive.condition g.R.Source.unread g.K.Sink.taken g.S.Spool.held _ _ refl c.in-Err.ensures.kept c.connect.ensures.behind c.in-Err.ensures.holding c.connect.ensures.store c.connect.ensures.config refl refl;
+      may = subst (λ (why : Rejection). MayRefuse c.args.self.now c.args.client why) (sym c.rejection_for.ensures) (hub_refuses c.args.self.now c.args.client c.in-Err.fault c.requires.vacant.2 c.in-Err.ensures.full);
       stays = record { places = refl; limits = refl; shut = refl; unanswered = refl; first = refl };
-      noted = c.reject-in-Err-Full.ensures.noted;
-    })
-
-pub returns-in-Err-Memory : goal.returns-in-Err-Memory
-returns-in-Err-Memory g c =
-    turned g.A.Archive.condition g.R.Source.unread g.K.Sink.taken g.S.Spool.held g.L.HostLog.notes _ _ _ _ c.args.at c.args.client Memory _ c.reject-in-Err-Memory.ensures.same (record {
-      keeps = unopened g.A.Archive.condition g.R.Source.unread g.K.Sink.taken g.S.Spool.held _ _ refl c.in-Err-Memory.ensures.kept c.connect.ensures.behind c.in-Err-Memory.ensures.holding c.connect.ensures.store c.connect.ensures.config refl refl;
-      may = c.requires.vacant.2;
-      stays = record { places = refl; limits = refl; shut = refl; unanswered = refl; first = refl };
-      noted = c.reject-in-Err-Memory.ensures.noted;
+      noted = c.reject-in-Err.ensures.noted;
     })
 
 pub returns : goal.returns

@@ -11,7 +11,7 @@ use Rattle.dep_hub.proofs.HubLemmas.{same_hub, none_there}
 use Rattle.dep_hub.proofs.BehindLemmas.{behind_none, not_there}
 use Rattle.dep_hub.proofs.PendingLemmas.{not_broken}
 use Rattle.dep_hub.proofs.PreparingLemmas.{there_none}
-use Rattle.dep_hub.proofs.LookLemmas.{keeps_same, kept_same}
+use Rattle.dep_hub.proofs.LookLemmas.{goes_same, keeps_same, kept_same, replies_same, turn_same}
 use Rattle.dep_hub.proofs.hub.Hub.reply.Goals as goal
 
 -- there is no such connection
@@ -76,3 +76,24 @@ pub returns-in-Some-kept_back-clause-later : goal.returns-in-Some-kept_back-clau
 returns-in-Some-kept_back-clause-later g c e =
     keeps_same g.A.Archive.condition c.args.self.now c.kept_back.new.self c.keep_back.new.self c.args.connection (g.O.Outlet.taken c.args.out.now) (g.O.Outlet.failures c.args.out.now)
     c.kept_back.ensures.same (c.keep_back.ensures.keeps (g.O.Outlet.taken c.args.out.now) (g.O.Outlet.failures c.args.out.now))
+
+pub returns-in-Some-kept_back-clause-goes : goal.returns-in-Some-kept_back-clause-goes
+returns-in-Some-kept_back-clause-goes g c =
+    goes_same g.A.Archive.condition c.args.self.now c.kept_back.new.self c.keep_back.new.self c.kept_back.ensures.same c.keep_back.ensures.goes
+
+pub returns-in-Some-kept_back-clause-turn : goal.returns-in-Some-kept_back-clause-turn
+returns-in-Some-kept_back-clause-turn g c = turn_same c.args.self.now c.kept_back.new.self c.keep_back.new.self c.kept_back.ensures.same c.keep_back.ensures.turn
+
+-- it is answered
+pub returns-clause-goes : goal.returns-clause-goes
+returns-clause-goes g c =
+    goes_same g.A.Archive.condition c.args.self.now c.kept_back.new.self c.answer_at.new.self c.kept_back.ensures.same c.answer_at.ensures.goes
+
+pub returns-clause-turn : goal.returns-clause-turn
+returns-clause-turn g c = turn_same c.args.self.now c.kept_back.new.self c.answer_at.new.self c.kept_back.ensures.same c.answer_at.ensures.turn
+
+pub returns-clause-replies : goal.returns-clause-replies
+returns-clause-replies g c =
+    replies_same g.A.Archive.condition c.args.self.now c.kept_back.new.self c.answer_at.new.self c.args.connection c.args.moment c.answer_at.result
+    (g.O.Outlet.taken c.args.out.now) (g.O.Outlet.taken c.answer_at.new.out) (g.O.Outlet.failures c.args.out.now) (g.O.Outlet.failures c.answer_at.new.out)
+    c.kept_back.ensures.same c.answer_at.ensures.replies
