@@ -1,6 +1,5 @@
 -- Contents that are being sent, and requests that wait.
-use Rattle.std.proofs.Common.{◌≡◌, ◌≢◌, ◌⊎◌, inl, inr, ℕ, suc, zero, ◌==◌, ◌+◌, ◌≤◌, ◌||◌, Bool, true, false, List, [], ◌∷◌, ◌++◌, get_or, set, Option, None, Some, if◌then◌else◌, refl, sym, ap, subst, ◌∙◌, arith, ◌<◌, length, take}
-use Rattle.std.proofs.lemmas.List.Folds.{list_any_at, list_any_more}
+use Rattle.std.proofs.Common.{◌≡◌, ◌≢◌, ◌⊎◌, inl, inr, ℕ, suc, zero, ◌==◌, ◌+◌, ◌≤◌, ◌||◌, Bool, true, false, List, [], ◌∷◌, ◌++◌, get_or, set, Option, None, Some, if◌then◌else◌, refl, sym, ap, subst, ◌∙◌, arith}
 use Rattle.std.proofs.lemmas.Bool.{eq-eqb, eqb-true}
 use Rattle.std.proofs.lemmas.Bool.Decides.{nat_tests}
 use Rattle.std.specs.List.{list_any}
@@ -299,10 +298,3 @@ module _ {A : Type 0} (condition : A → Condition) (old new : Hub A) where
         let other : m ≢ n = grind (arith, nat_tests, e) in
         owed_as w.state (behind_at old.connections.items m) (behind_at new.connections.items m) (owed m) (k.others m other) (at.owes m));
   }
-
--- one of them passes, or none up to this one
-pub one_passes : (p : Connection → Bool) (cs : List Connection) (i : ℕ) (c : Connection) → i < length cs → c ≡ get_or cs i c → p c ≡ true → list_any p cs ≡ true
-one_passes p cs i c there is e = list_any_at p cs i c there (ap p (sym is) ∙ e)
-
-pub none_passes : (p : Connection → Bool) (cs : List Connection) (i : ℕ) (c : Connection) → i < length cs → c ≡ get_or cs i c → list_any p (take i cs) ≡ false → p c ≡ false → list_any p (take (i + 1) cs) ≡ false
-none_passes p cs i c there is before e = list_any_more p cs i c there ∙ (ap (λ (b : Bool). b || p (get_or cs i c)) before ∙ (ap p (sym is) ∙ e))

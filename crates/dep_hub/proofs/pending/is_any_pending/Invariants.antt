@@ -1,9 +1,0 @@
-use Rattle.std.proofs.Common.{◌≡◌, false, take}
-use Rattle.std.specs.List.{list_any}
-use Rattle.dep_hub.specs.Claims.{is_pending}
-use Rattle.dep_hub.specs.declared.connections.Connection.{Connection}
-use Rattle.dep_hub.proofs.pending.is_any_pending.Given as goal
-
--- none before
-abbrev pub invariant-loop-connection : goal.invariant-loop-connection
-invariant-loop-connection l = list_any (λ (x : Connection). is_pending x.behind) (take l.connection-index l.connections) ≡ false
