@@ -1,6 +1,5 @@
 -- How a host goes on.
-use Rattle.std.proofs.Common.{◌≡◌, ◌⊎◌, ◌<◌, ◌≤◌, ◌+◌, ◌==◌, ◌||◌, if◌then◌else◌, ℕ, zero, suc, Bool, true, false, cond, List, [], ◌∷◌, ◌++◌, Option, None, Some, refl, sym, ap, subst, ◌∙◌, append_assoc, length, get_or, set, take, Vec, Global, is_some, Ok, IsTrue, add-one, inl, inr, arith}
-use Rattle.std.proofs.lemmas.List.Sums.{sum_by-cons, sum_by_more}
+use Rattle.std.proofs.Common.{◌≡◌, ◌⊎◌, ◌<◌, ◌≤◌, ◌+◌, ◌==◌, ◌||◌, if◌then◌else◌, ℕ, zero, suc, Bool, true, false, List, [], ◌∷◌, ◌++◌, Option, None, Some, refl, sym, ap, subst, ◌∙◌, append_assoc, length, get_or, set, take, Vec, Global, is_some, Ok, IsTrue, add-one, inl, inr, arith}
 use Rattle.std.proofs.lemmas.List.{append-nil, get_or_default, set-get_or, get_or-set_same, get_or-set_other}
 use Rattle.std.proofs.Math.ListN.{length-set}
 use Rattle.std.proofs.lemmas.Bool.{cases_eq, cases_lt}
@@ -25,7 +24,6 @@ use Rattle.dep_outbox.specs.declared.wire.Wire.{Wire}
 use Rattle.dep_outbox.specs.Wires.{reported}
 use Rattle.dep_slot.specs.ConnectionStates.{SendsStill, is_ended, closing as why}
 use Rattle.dep_slot.specs.declared.slot.Slot.{Slot}
-use Rattle.dep_host.specs.Coming.{comes_from, slots_from}
 use Rattle.dep_host.specs.declared.host.Host.{Host}
 use Rattle.dep_slot.specs.declared.log.Closing.{Closing}
 use Rattle.dep_slot.specs.declared.log.Closing.TheVariants.{Large}
@@ -200,29 +198,6 @@ kept_front (s ∷ slots) zero none =
     let f : unfinished_of (slot_at zero (s ∷ slots)) ≡ unfinished_of s = refl in
     omega (arith, rest, here, e, z, y, f)
 kept_front (s ∷ slots) (suc n) none = ap (λ (k : ℕ). unfinished_of s + k) (kept_front slots n (λ at h. none (suc at) (omega (arith, h))))
-
--- how many come from there, of so many first ones and one more
-pub come_more : {R K S : Type 0} (from : ℕ) (slots : List (Option (Slot R K S))) (at : ℕ) (x : Option (Slot R K S)) → at < length slots → x ≡ get_or slots at x
-    → slots_from from (take (at + 1) slots) ≡ slots_from from (take at slots) + cond (comes_from from x) 1 0
-come_more {R} {K} {S} from slots at x there read =
-    let f : Option (Slot R K S) → ℕ = λ s. cond (comes_from from s) 1 0 in
-    sum_by_more f slots at None there ∙ ap (λ (k : ℕ). slots_from from (take at slots) + k) (ap f (slot_read at slots x there read))
-
--- all of them are among the first ones, where nobody is behind these
-pub come_front : {R K S : Type 0} (from : ℕ) (slots : List (Option (Slot R K S))) (n : ℕ) → ((at : ℕ) → n ≤ at → slot_at at slots ≡ None) → slots_from from slots ≡ slots_from from (take n slots)
-come_front from [] zero none = refl
-come_front from [] (suc n) none = refl
-come_front {R} {K} {S} from (s ∷ slots) zero none =
-    let f : Option (Slot R K S) → ℕ = λ x. cond (comes_from from x) 1 0 in
-    let rest = come_front from slots zero (λ at h. none (suc at) (omega arith)) in
-    let z : slots_from from (take zero slots) ≡ 0 = refl in
-    let y : slots_from from (take zero (s ∷ slots)) ≡ 0 = refl in
-    let here : f s ≡ f None = ap f (none zero (omega arith)) in
-    let nobody : f None ≡ 0 = refl in
-    omega (arith, sum_by-cons f s slots, rest, here, nobody, z, y)
-come_front {R} {K} {S} from (s ∷ slots) (suc n) none =
-    let f : Option (Slot R K S) → ℕ = λ x. cond (comes_from from x) 1 0 in
-    sum_by-cons f s slots ∙ (ap (λ (k : ℕ). f s + k) (come_front from slots n (λ at h. none (suc at) (omega (arith, h)))) ∙ sym (sum_by-cons f s (take n slots)))
 
 module _ {A R K S : Type 0} (condition : A → Condition) (unread : R → Option (List ℕ)) (taken : K → Option (List ℕ)) (held : S → Option (List ℕ)) where
   pub represents_still : (p : Position A R K S) → Steps condition unread taken held p [] p

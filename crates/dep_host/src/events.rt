@@ -1,5 +1,5 @@
 //! What comes to a host from outside.
-ghost use Rattle.std.specs.Prelude.{◌≡◌, ◌≤◌, cond, IsTrue, Bool, List, [], ◌∷◌, Option, None};
+ghost use Rattle.std.specs.Prelude.{◌≡◌, IsTrue, Bool, List, [], ◌∷◌, Option, None};
 ghost use Rattle.dep_host.specs.Coming.{IsFresh, origin, comes_from};
 ghost use Rattle.dep_host.specs.Meeting.{rejection_for};
 ghost use Rattle.dep_slot.specs.Notes.{Rejected, Grows};
@@ -26,17 +26,16 @@ const MOST_HOSTS: u128 = 0x1_0000_0000_0000_0000;
 /// The number of the first of these networks, behind all IPv4 addresses.
 const FIRST_NETWORK: u128 = 0x1_0000_0000;
 
-/// How many come from there, of who is at a place: one, or nobody.
-pub(crate) fn count_from<R: Source, K: Sink, S: Spool>(
+/// Whether who is at a place comes from there.
+pub(crate) fn comes_from<R: Source, K: Sink, S: Spool>(
     place: &Option<Slot<R, K, S>>,
     from: u128,
-) -> usize
-    ensures count { result ≡ cond (comes_from from place.now) 1 0 }
-    ensures one { result ≤ 1 }
+) -> bool
+    ensures { result ≡ comes_from from place.now }
 {
     match place {
-        Some(slot) => if origin(slot.address()) == from { 1 } else { 0 },
-        None => 0,
+        Some(slot) => origin(slot.address()) == from,
+        None => false,
     }
 }
 

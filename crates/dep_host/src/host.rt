@@ -2,7 +2,7 @@
 ghost use Rattle.std.specs.Prelude.{◌≡◌, ◌≤◌, ℕ, None, length, get_or, IfOk};
 
 use crate::ending::{Cause, Shut};
-use crate::events::{count_from, origin, reject, rejection_for};
+use crate::events::{comes_from, origin, reject, rejection_for};
 use crate::place::{is_read, unfinished};
 use crate::share::Share;
 use dep_hub::{Archive, Hub};
@@ -235,11 +235,10 @@ impl<A: Archive, R: Source + Drop, K: Sink + Drop, S: Spool + Drop> Host<A, R, K
         ensures { result ≡ slots_from (origin address) self.now.slots.items }
     {
         let from = origin(address);
-        let mut count = 0;
-        for at in 0..self.end {
-            count += count_from(&self.slots[at], from);
-        }
-        count
+        self.slots
+            .iter()
+            .filter(|slot| comes_from(*slot, from))
+            .count()
     }
 
     /// Takes note that a socket may be ready.
