@@ -174,9 +174,7 @@ impl<'a, R: Files + Net + Clock> Sockets<'a, R> {
     fn let_in(&mut self, vacancy: Option<usize>, count: usize) -> Option<SocketClient<'a, R>> {
         match vacancy {
             Some(at) if self.is_waited_for && self.remaining > 0 && count < MOST_SEATS => {
-                let Some((stream, address)) = self.accept() else {
-                    return None;
-                };
+                let (stream, address) = self.accept()?;
                 self.stage = EventKind::LettingIn(count + 1);
                 self.remaining = self.remaining.saturating_sub(1);
                 self.slot(stream, address, at)
