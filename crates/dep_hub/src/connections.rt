@@ -49,7 +49,7 @@ pub(crate) struct Connection {
 
 /// A connection, and where it stands in the list.
 #[derive(Clone, Copy)]
-pub(crate) struct Place {
+pub(crate) struct ListedConnection {
     pub connection: ConnId,
     pub index: usize,
 }

@@ -7,7 +7,7 @@ ghost use Rattle.dep_exchange.specs.Records.{Connect, Close, Record, World, Run,
 ghost use Rattle.dep_hub.specs.Claims.{is_any_pending, is_any_waiting};
 ghost use Rattle.dep_hub.specs.Numbers.{Ascends, Ascends-prop, HasPlace, most_connections, last_number};
 
-use crate::connections::{ConnId, Connection, Place, index_among};
+use crate::connections::{ConnId, Connection, ListedConnection, index_among};
 use crate::faults::{ConnectFault, HubFault};
 use crate::keeping::{kept_by, look_at};
 use crate::pending::{
@@ -251,11 +251,11 @@ impl<A: Archive> Hub<A> {
             self.keep_back(connection, i, behind);
             return None;
         }
-        let place = Place {
+        let listed = ListedConnection {
             connection,
             index: i,
         };
-        Some(self.answer_at(place, moment, out, log))
+        Some(self.answer_at(listed, moment, out, log))
     }
 
     // What is behind the last reply of a connection from now on, if no further item is answered.
@@ -294,23 +294,23 @@ impl<A: Archive> Hub<A> {
     // Answers the next item of a connection, which isn't kept back.
     fn answer_at<O: Outlet, L: AccessLog>(
         &mut self,
-        place: Place,
+        listed: ListedConnection,
         moment: Moment,
         out: &mut O,
         log: &mut L,
     ) -> Next
-        requires index { index_of place.connection self.old.connections.items ≡ Some place.index }
-        requires within { place.index < length self.old.connections.items }
-        requires free { NextIsAnswerable self.old.connections.items place.connection }
+        requires index { index_of listed.connection self.old.connections.items ≡ Some listed.index }
+        requires within { listed.index < length self.old.connections.items }
+        requires free { NextIsAnswerable self.old.connections.items listed.connection }
         ensures goes { GoesOnAs A.condition self.old self.new }
         ensures there { (result ≢ Next.NoSuch)
-            × IsSome (intake_of self.new.connections.items place.connection) }
-        ensures unbroken { behind_at self.new.connections.items place.connection ≢ Behind.Broken }
+            × IsSome (intake_of self.new.connections.items listed.connection) }
+        ensures unbroken { behind_at self.new.connections.items listed.connection ≢ Behind.Broken }
         ensures replies { RepliesOver A.condition (O.taken out.old) (O.taken out.new)
-            (O.failures out.old) (O.failures out.new) self.old self.new place.connection moment result }
+            (O.failures out.old) (O.failures out.new) self.old self.new listed.connection moment result }
         ensures turn { self.new.last_turn ≡ self.old.last_turn }
     {
-        let kept = &mut self.connections[place.index];
+        let kept = &mut self.connections[listed.index];
         let context = Context {
             site: &self.config,
             moment,

@@ -19,19 +19,19 @@ pub still_pending-self-requires : goal.still_pending-self-requires
 still_pending-self-requires g c before none =
     let kept = c.index_mut-kept.result.now in
     ap is_any_pending c.as_slice.ensures.value
-    ∙ any_unset is_pending c.args.place.index c.args.self.now.connections.items (record { number = kept.number; intake = c.take_next-next.new.intake; behind = c.behind_of-behind.result }) none
+    ∙ any_unset is_pending c.args.listed.index c.args.self.now.connections.items (record { number = kept.number; intake = c.take_next-next.new.intake; behind = c.behind_of-behind.result }) none
     (sym c.args.self.now.busy ∙ before)
 
 pub still_waiting-self-requires : goal.still_waiting-self-requires
 still_waiting-self-requires g c before =
     let kept = c.index_mut-kept.result.now in
     ap is_any_waiting c.as_slice-2.ensures.value
-    ∙ any_unset is_waiting c.args.place.index c.args.self.now.connections.items (record { number = kept.number; intake = c.take_next-next.new.intake; behind = c.behind_of-behind.result })
+    ∙ any_unset is_waiting c.args.listed.index c.args.self.now.connections.items (record { number = kept.number; intake = c.take_next-next.new.intake; behind = c.behind_of-behind.result })
     (ap is_waiting c.behind_of-behind.ensures ∙ not_waiting c.take_next-next.result.1) (sym c.args.self.now.awaiting ∙ before)
 
 pub invariant_of-self : goal.invariant_of-self
 invariant_of-self g c = record {
-  ascends = ascends_set 0 c.args.self.now.next c.args.place.index c.args.self.now.connections.items c.index_mut-kept.result.now
+  ascends = ascends_set 0 c.args.self.now.next c.args.listed.index c.args.self.now.connections.items c.index_mut-kept.result.now
       (record { number = c.index_mut-kept.result.now.number; intake = c.take_next-next.new.intake; behind = c.behind_of-behind.result }) c.index_mut-kept.ensures.value refl c.args.self.now.ascends;
   busy = c.still_pending-self.ensures ∙ ap is_any_pending c.as_slice.ensures.value;
   awaiting = c.still_waiting-self.ensures ∙ ap is_any_waiting c.as_slice-2.ensures.value;
@@ -52,27 +52,27 @@ returns-clause-there g c =
     let old = outside (g.O.Outlet.taken c.args.out.now) (g.O.Outlet.failures c.args.out.now) (g.A.Archive.condition c.args.self.now.store) in
     let new = outside (with_more (g.O.Outlet.taken c.take_next-next.new.out) y.0) (g.O.Outlet.failures c.take_next-next.new.out) (g.A.Archive.condition c.take_next-next.new.store) in (
       (next_there c.args.self.now.config c.index_mut-kept.result.now.intake c.args.moment old new c.take_next-next.new.intake.place c.take_next-next.result.0 y.3.answers),
-      stays_there c.args.place.connection c.args.place.index c.args.self.now.connections.items c.index_mut-kept.result.now index c.index_mut-kept.ensures.value c.take_next-next.new.intake c.behind_of-behind.result,
+      stays_there c.args.listed.connection c.args.listed.index c.args.self.now.connections.items c.index_mut-kept.result.now index c.index_mut-kept.ensures.value c.take_next-next.new.intake c.behind_of-behind.result,
     )
 
 pub returns-clause-replies : goal.returns-clause-replies
 returns-clause-replies g c =
-    let n = c.args.place.connection in
+    let n = c.args.listed.connection in
     let items = c.args.self.now.connections.items in
     let index = c.requires.index in
     let kept = c.index_mut-kept.result.now in
     let b = c.behind_of-behind.result in
-    let found = index_some n c.args.place.index items kept index c.index_mut-kept.ensures.value in
+    let found = index_some n c.args.listed.index items kept index c.index_mut-kept.ensures.value in
     let free = c.requires.free kept.intake found.1 in
     let store = g.A.Archive.condition c.take_next-next.new.store in
     let y = c.take_next-next.ensures.owing in
-    let behinds = behinds_are n c.args.place.index items kept b index c.index_mut-kept.ensures.value c.take_next-next.new.intake _ refl in
+    let behinds = behinds_are n c.args.listed.index items kept b index c.index_mut-kept.ensures.value c.take_next-next.new.intake _ refl in
     let here = behinds n ∙ (ap (λ (t : Bool). if t then b else behind_at items n) (eq-eqb n n refl) ∙ c.behind_of-behind.ensures) in
     record {
       now = y.2.0;
       appends = y.2.1;
       more = y.0;
-      answers = comes_next g.A.Archive.condition c.args.self.now _ n c.args.place.index kept c.take_next-next.new.intake b
+      answers = comes_next g.A.Archive.condition c.args.self.now _ n c.args.listed.index kept c.take_next-next.new.intake b
           index c.index_mut-kept.ensures.value refl refl (g.met.A.Archive.settled c.take_next-next.new.store)
           (g.O.Outlet.taken c.args.out.now) (with_more (g.O.Outlet.taken c.take_next-next.new.out) y.0) (g.O.Outlet.failures c.args.out.now) (g.O.Outlet.failures c.take_next-next.new.out)
           c.args.moment y.3.keeps.limit y.3.keeps.dead c.take_next-next.result.0 y.3.answers;
@@ -85,19 +85,19 @@ returns-clause-replies g c =
       let_go = ap is_looked_at here ∙ not_looked c.take_next-next.result.1;
       others = others_are n items _ b behinds;
       unawaited = λ honest w held at.
-          subst (λ (x : Behind). is_awaited_by (set items c.args.place.index (record { number = kept.number; intake = c.take_next-next.new.intake; behind = b })) x ≡ false) (sym here)
+          subst (λ (x : Behind). is_awaited_by (set items c.args.listed.index (record { number = kept.number; intake = c.take_next-next.new.intake; behind = b })) x ≡ false) (sym here)
           (begins_unawaited c.args.self.now.config items kept.intake c.args.moment (g.A.Archive.condition c.args.self.now.store) store w.state honest at.state free.1
-          c.args.place.index kept (record { number = kept.number; intake = c.take_next-next.new.intake; behind = b }) c.index_mut-kept.ensures.value
+          c.args.listed.index kept (record { number = kept.number; intake = c.take_next-next.new.intake; behind = b }) c.index_mut-kept.ensures.value
           c.take_next-next.result.1 c.behind_of-behind.ensures c.take_next-next.ensures.begins);
     }
 
 pub returns-clause-unbroken : goal.returns-clause-unbroken
 returns-clause-unbroken g c broken =
-    let n = c.args.place.connection in
+    let n = c.args.listed.connection in
     let items = c.args.self.now.connections.items in
     let index = c.requires.index in
     let kept = c.index_mut-kept.result.now in
     let b = c.behind_of-behind.result in
-    let behinds = behinds_are n c.args.place.index items kept b index c.index_mut-kept.ensures.value c.take_next-next.new.intake _ refl in
+    let behinds = behinds_are n c.args.listed.index items kept b index c.index_mut-kept.ensures.value c.take_next-next.new.intake _ refl in
     let here = behinds n ∙ (ap (λ (t : Bool). if t then b else behind_at items n) (eq-eqb n n refl) ∙ c.behind_of-behind.ensures) in
     not_broken c.take_next-next.result.1 (sym here ∙ broken)
