@@ -6,7 +6,8 @@
 One client does one thing after another; a second one asks for the service document over and over. Each line tells how long the
 act took, how long the other waited at most, and how long it may: 100 ms, and 100 ms for each 16 MiB that the request brings or
 moves. Where the tables or the JSON of the kit take more than that, an act may take so many microseconds for each text or reference
-(EACH). With words it does only the acts whose line has one of them. With --check its status is 1 where another waited longer.
+(EACH). On a machine that is slower than usual (slowness) all that is longer by as much. With words it does only the acts whose
+line has one of them. With --check its status is 1 where another waited longer.
 """
 
 import sys
@@ -21,7 +22,7 @@ import time
 
 from depositing import JSON, Client, as_file, by_reference, exchange, first_file
 from hosted import MIB, Host, rest
-from host_waits import MOST, SEGMENT_SIZE, Other, upload
+from host_waits import MOST, SEGMENT_SIZE, Other, slowness, upload
 
 PATIENCE, CLIENTS, IDLE = 900, 10, 8
 CROWD, CROWD_SECONDS = 900, 5
@@ -213,6 +214,7 @@ def main():
                 began = time.monotonic()
                 act()
                 took = time.monotonic() - began
+            most *= slowness()
             longer += other.longest > most
             print(f"{line:<44} took {took:6.2f} s, others waited {other.longest:6.0f} ms of {most:5.0f}, {acts.host.peak():5.0f} MiB"
                   f"{'  LONGER' if other.longest > most else ''}", flush=True)
