@@ -35,12 +35,12 @@ loop-parameter-init c = record { held = λ k. let e = c.new-names.ensures.empty 
 
 pub returns-then-not-branch : goal.returns-then-not-branch
 returns-then-not-branch c = λ is.
-      let ps = c.args.parameters.now in
-      let i = c.loop-parameter.parameter-index in
-      let x = c.deref.result.now in
-      let split = names_split ps i c.parameter-item.result x c.loop-parameter-test.true c.parameter-item.is c.deref.ensures.value in
-      let held = not_false _ (sym c.if-not-branch.true ∙ c.in_ok-insert.ensures.added) in
-      absurd (not_distinct (map name (take i ps)) x (map name (drop (suc i) ps)) (sym (c.loop-parameter.invariant.held c.deref.result) ∙ held) (subst (λ (l : List (List ℕ)). IsDistinct bytes_eq l) split is))
+    let ps = c.args.parameters.now in
+    let i = c.loop-parameter.parameter-index in
+    let x = c.deref.result.now in
+    let split = names_split ps i c.parameter-item.result x c.loop-parameter-test.true c.parameter-item.is c.deref.ensures.value in
+    let held = not_false _ (sym c.if-not-branch.true ∙ c.in_ok-insert.ensures.added) in
+    absurd (not_distinct (map name (take i ps)) x (map name (drop (suc i) ps)) (sym (c.loop-parameter.invariant.held c.deref.result) ∙ held) (subst (λ (l : List (List ℕ)). IsDistinct bytes_eq l) split is))
 
 pub loop-parameter-preserved : goal.loop-parameter-preserved
 loop-parameter-preserved c =
