@@ -141,7 +141,7 @@ def bags_of_all(server, relay, place):
     kept, read = (subprocess.run([*words, *where], capture_output=True, text=True, check=False) for where in ([place / "all"], []))
     expect(f"the end of a fetch of a range: {kept.stderr}{read.stderr}", (kept.returncode, read.returncode), (0, 0))
     expect("what is told of two objects of a file each", (kept.stdout, read.stdout), 2 * ("objects 2 files 2 wrong 0\n",))
-    expect("the bags", sorted(it.name for it in (place / "all").iterdir()), [str(last - 2), str(last)])
+    expect("the bags", sorted(int(it.name) for it in (place / "all").iterdir()), [last - 2, last])
 
 
 def statuses_of_the_fetcher(server, place, path):
