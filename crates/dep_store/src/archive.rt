@@ -89,7 +89,8 @@ fn note_segment(
     performed: &Performed,
 ) -> bool
     ensures running { (s : State) → AreRunning s running.old → AreRunning s running.new }
-    ensures refused { IsTrue (is_some performed.now.refusal) → running.new ≡ running.old }
+    ensures refused { IsTrue (is_some performed.now.refusal)
+        → (running.new ≡ running.old) × (result ≡ false) }
 {
     if performed.refusal.is_some() {
         return false;

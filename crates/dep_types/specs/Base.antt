@@ -9,8 +9,3 @@ pub record IsBase (text : List ℕ) : Type 0 where
   pub reads : parse_url None text ≡ Ok url
   pub scheme : url.scheme ≡ codes "http"
   pub spelled : serialize url ≡ text ++ codes "/"
-
--- it is of `http`, and its text is this one with a slash after it
-pub record IsOfBase (url : Parts) (text : List ℕ) : Type 0 where
-  pub scheme : url.scheme ≡ codes "http"
-  pub spelled : serialize url ≡ text ++ codes "/"

@@ -1,6 +1,6 @@
 //! The URL that all of the server's URLs begin with.
-ghost use Rattle.std.specs.Prelude.{◌≡◌, ◌≢◌, ◌↔◌, IsTrue, OnOk, Err};
-ghost use Rattle.dep_types.specs.Base.{IsBase, IsOfBase};
+ghost use Rattle.std.specs.Prelude.{◌≡◌, ◌≢◌, OnOk, Err};
+ghost use Rattle.dep_types.specs.Base.{IsBase};
 
 use crate::config::ConfigFault;
 use std::alloc::Global;
@@ -14,18 +14,16 @@ pub(crate) fn check_base(alloc: Global, base: &str) -> Result<(), ConfigFault>
     ensures other { result ≢ Err ConfigFault.Limit }
 {
     match Url::parse(alloc, base) {
-        Ok(url) if is_of_base(&url, base) => Ok(()),
+        Ok(url) => {
+            let Some((last, front)) = url.as_str().as_bytes().split_last() else {
+                return Err(ConfigFault::Base);
+            };
+            if url.scheme() != "http" || *last != b'/' || front != base.as_bytes() {
+                return Err(ConfigFault::Base);
+            }
+            Ok(())
+        }
         Err(ParseError::OutOfMemory | ParseError::Overflow) => Err(ConfigFault::Memory),
-        _ => Err(ConfigFault::Base),
-    }
-}
-
-// Whether the URL is of `http`, and its text is the base and a slash.
-fn is_of_base(url: &Url, base: &str) -> bool
-    ensures { IsTrue result ↔ IsOfBase url.now base.now }
-{
-    match url.as_str().as_bytes().split_last() {
-        Some((b'/', front)) => url.scheme() == "http" && front == base.as_bytes(),
-        _ => false,
+        Err(_) => Err(ConfigFault::Base),
     }
 }

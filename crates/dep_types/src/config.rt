@@ -97,10 +97,11 @@ impl Config {
         ensures limit { result ≡ Err ConfigFault.Limit →
             IsBase self.now.base × (¬ HasLimits self.now) }
     {
-        match check_base(alloc, self.base.as_str()) {
-            Ok(()) if !self.has_limits() => Err(ConfigFault::Limit),
-            checked => checked,
+        check_base(alloc, self.base.as_str())?;
+        if !self.has_limits() {
+            return Err(ConfigFault::Limit);
         }
+        Ok(())
     }
 
     fn has_limits(&self) -> bool
