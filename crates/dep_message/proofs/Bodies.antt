@@ -1,17 +1,18 @@
 -- A head, and the body behind it.
-use Rattle.std.proofs.Common.{◌≡◌, ℕ, ◌<◌, ◌&&◌, not, Bool, true, false, List, [], ◌++◌, length, take, drop, Ok, refl, sym, ap, ◌∙◌, append_assoc, append-nil, length-append, arith, inr}
-use Rattle.std.proofs.lemmas.List.{take-append-drop}
+use Rattle.std.proofs.Common.{◌≡◌, ℕ, ◌<◌, ◌≤◌, ◌&&◌, not, Bool, true, false, List, [], ◌++◌, length, take, drop, Ok, refl, sym, ap, ◌∙◌, append_assoc, append-nil, length-append, arith, inr}
+use Rattle.std.proofs.lemmas.List.{length-take-le, take-append-drop}
 use Rattle.dep_head.specs.Head.{HeadParts, IsHeadText}
 use Rattle.dep_head.proofs.HeadEnd.{end_within}
 use Rattle.dep_body.specs.Framing.{framing}
 use Rattle.dep_body.specs.Body.{IsBodyText, IsBodyFault, IsPartOfBody}
 use Rattle.dep_body.specs.declared.frame.Framing.{Framing}
+use Rattle.dep_body.specs.declared.frame.Framing.TheVariants.{Empty, Length, Chunked}
 use Rattle.dep_body.specs.declared.frame.FrameFault.{FrameFault}
 use Rattle.dep_message.specs.Heads.{is_due, is_head_only}
 use Rattle.dep_message.specs.Places.{Open, HasBytes}
 use Rattle.dep_message.specs.Stream.{HasHead, IsFaultText, bad_body, IsRequestText, IsContinueText, Waits, refusal_of}
 use Rattle.dep_message.specs.Giving.{Begins, BeginsWithHead}
-use Rattle.dep_message.specs.Working.{IsBegun}
+use Rattle.dep_message.specs.Working.{HasSize, IsBegun}
 use Rattle.dep_message.specs.declared.message.Message.{Message}
 use Rattle.dep_message.proofs.Reading.{has_bytes}
 
@@ -54,6 +55,19 @@ body_fault limit continued front text behind head frame fault b is_fault = (
   sym (append_assoc front text behind),
   bad_body fault (headed limit continued front text head frame b) is_fault,
 )
+
+-- a body of so many bytes has come whole
+pub sized_body : (limit : ℕ) (frame : Framing) (size : ℕ) (bytes content : List ℕ) → HasSize frame size → size ≤ length bytes → content ≡ take size bytes
+    → IsBodyText limit frame (take size bytes) content
+sized_body limit Empty size bytes content none within same = (ap (λ n. take n bytes) none, same ∙ ap (λ n. take n bytes) none)
+sized_body limit (Length n) size bytes content is within same = (length-take-le size bytes within ∙ is, same)
+sized_body limit Chunked size bytes content is within same = absurd is
+
+-- and one with some bytes to come has a length
+pub sized_frame : (frame : Framing) (size : ℕ) → HasSize frame size → 0 < size → frame ≡ Length size
+sized_frame Empty size none some = absurd (omega (arith, none, some))
+sized_frame (Length n) size is some = ap Length (sym is)
+sized_frame Chunked size is some = absurd is
 
 -- a good head is one but for its target
 pub begins_with_head : (limit : ℕ) (continued : Bool) (front body : List ℕ) (head : HeadParts) (frame : Framing)

@@ -8,6 +8,7 @@ use Rattle.dep_message.specs.Giving.{BeginsWithHead}
 use Rattle.dep_message.specs.Places.{Reading, Open}
 use Rattle.dep_message.specs.Working.{IsFresh, IsItem, IsKnown, IsAtHead, IsBegun, IsReadTo, ReadsChunks, Keeps, bytes_with, first_of, kept_bytes, reading_of}
 use Rattle.dep_message.specs.Stream.{IsRequestText, Waits}
+use Rattle.dep_message.specs.declared.first.FramedHead.{FramedHead}
 use Rattle.dep_message.specs.declared.intake.Standing.{Standing}
 use Rattle.dep_message.specs.declared.intake.Standing.TheVariants.{Live}
 use Rattle.dep_message.specs.declared.message.Message.{Message}
@@ -55,11 +56,12 @@ keeps_used unparsed request bytes reads same =
     record { limit_is = refl; continued_is = refl; bytes_are = append-nil request.used.items ∙ same; known = reads }
 
 -- where memory is refused behind a head, nothing changes
-pub unchanged : (unparsed : Unparsed) (n : ℕ) (head : HeadParts) (frame : Framing) → IsAtHead unparsed n head frame
+pub unchanged : (unparsed : Unparsed) (first : FramedHead) → IsAtHead unparsed first
     → Keeps unparsed.limit unparsed.continued unparsed.buffer unparsed × BeginsWithHead unparsed.buffer
-unchanged unparsed n head frame at = (
+unchanged unparsed first at = (
   keeps_fresh unparsed.limit unparsed.continued unparsed.buffer unparsed at.fresh refl refl refl,
-  subst BeginsWithHead (take-append-drop n unparsed.buffer) (begins_with_head unparsed.limit unparsed.continued (take n unparsed.buffer) (drop n unparsed.buffer) head frame at.begun),
+  subst BeginsWithHead (take-append-drop first.length unparsed.buffer)
+      (begins_with_head unparsed.limit unparsed.continued (take first.length unparsed.buffer) (drop first.length unparsed.buffer) first.head first.framing at.begun),
 )
 
 -- the item that stands first was found

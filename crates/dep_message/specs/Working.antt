@@ -6,12 +6,13 @@ use Rattle.dep_body.specs.Framing.{framing}
 use Rattle.dep_body.specs.Body.{IsPartOfBody}
 use Rattle.dep_body.specs.Feeding.{HasFed}
 use Rattle.dep_body.specs.declared.frame.Framing.{Framing}
-use Rattle.dep_body.specs.declared.frame.Framing.TheVariants.{Length, Chunked as InChunks}
+use Rattle.dep_body.specs.declared.frame.Framing.TheVariants.{Empty, Length, Chunked as InChunks}
 use Rattle.dep_message.specs.Giving.{Begins, BeginsWithHead}
 use Rattle.dep_message.specs.Heads.{is_due}
 use Rattle.dep_message.specs.Places.{Reading, Open, Shut}
 use Rattle.dep_message.specs.Stream.{IsContinueText, IsFaultText, IsRequestText, Waits}
 use Rattle.dep_message.specs.declared.first.FirstHead.{FirstHead}
+use Rattle.dep_message.specs.declared.first.FramedHead.{FramedHead}
 use Rattle.dep_message.specs.declared.first.FirstHead.TheVariants as H
 use Rattle.dep_message.specs.declared.intake.Standing.{Standing}
 use Rattle.dep_message.specs.declared.intake.Standing.TheVariants.{Live, Closed, Dead}
@@ -87,11 +88,17 @@ pub record HasLeft (unparsed : Unparsed) (progress : Progress) : Type 0 where
   pub fresh : IsFresh unparsed
   pub known : IsKnown unparsed.limit unparsed.continued unparsed.buffer progress
 
--- nothing is known of the first request yet, whose head is the first bytes of the buffer, so many
-pub record IsAtHead (unparsed : Unparsed) (size : ℕ) (head : HeadParts) (frame : Framing) : Type 0 where
+-- nothing is known of the first request yet, whose head is the first bytes of the buffer
+pub record IsAtHead (unparsed : Unparsed) (first : FramedHead) : Type 0 where
   pub fresh : IsFresh unparsed
-  pub within : size ≤ length unparsed.buffer
-  pub begun : IsBegun unparsed.limit unparsed.continued (take size unparsed.buffer) head frame
+  pub within : first.length ≤ length unparsed.buffer
+  pub begun : IsBegun unparsed.limit unparsed.continued (take first.length unparsed.buffer) first.head first.framing
+
+-- a body framed so has just so many bytes
+abbrev pub HasSize : Framing → ℕ → Type 0
+HasSize Empty size = size ≡ 0
+HasSize (Length n) size = size ≡ n
+HasSize InChunks size = ⊥
 
 -- what the intake knows of the first request in its buffer is so
 abbrev pub IsWorking : Unparsed → Type 0

@@ -86,14 +86,13 @@ impl FirstItem {
     {
         match mem::replace(&mut self.item, Found::Continue) {
             Found::Message(message) => {
-                self.item = Found::Message(by.preview(message));
+                drop(mem::replace(&mut self.item, Found::Message(by.preview(message))));
                 true
             }
-            Found::Fault(refusal, head_only) => {
-                self.item = Found::Fault(refusal, head_only);
+            other => {
+                drop(mem::replace(&mut self.item, other));
                 false
             }
-            Found::Continue => false,
         }
     }
 }

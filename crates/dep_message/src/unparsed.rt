@@ -5,7 +5,7 @@ ghost use Rattle.dep_message.specs.Heads.{is_head_only};
 ghost use Rattle.dep_message.specs.Places.{Open};
 ghost use Rattle.dep_message.specs.Showing.{ShowsNext};
 ghost use Rattle.dep_message.specs.Stream.{refusal_of};
-ghost use Rattle.dep_message.specs.Working.{HasLeft, FindsHead, IsAtHead, IsReadOn, Keeps, Finds, FindsNext, ReadsOn, IsSearched, IsWorking, first_of, kept_bytes};
+ghost use Rattle.dep_message.specs.Working.{HasLeft, HasSize, FindsHead, IsAtHead, IsReadOn, Keeps, Finds, FindsNext, ReadsOn, IsSearched, IsWorking, first_of, kept_bytes};
 ghost use Rattle.dep_message.specs.declared.progress.Progress.TheVariants.{Searched, Sized, Chunked};
 
 use crate::buffer::Buffer;
@@ -146,53 +146,51 @@ impl Unparsed {
 
     // Reads the body behind the first head.
     fn begin(&mut self, first: FramedHead) -> Result<(), AllocError>
-        requires { IsAtHead self.old first.length first.head first.framing }
+        requires { IsAtHead self.old first }
         ensures { ReadsOn self.old self.old.buffer self.new result }
     {
         match first.framing {
-            Framing::Empty => {
-                let used = UsedBytes::new().and(&self.buffer.as_slice()[..first.length]);
-                let octets = HashedOctets::from_vec(Vec::new(self.alloc));
-                self.keep_whole(used, first.length, first.head, octets);
-                Ok(())
-            }
-            Framing::Length(length) => self.begin_sized(first.head, first.length, length as usize),
-            Framing::Chunked => self.begin_chunks(first.head, first.length),
+            Framing::Empty => self.begin_sized(first, 0),
+            Framing::Length(length) => self.begin_sized(first, length as usize),
+            Framing::Chunked => self.begin_chunks(first),
         }
     }
 
-    fn begin_sized(&mut self, head: Head, head_length: usize, size: usize) -> Result<(), AllocError>
-        requires { IsAtHead self.old head_length head (Framing.Length size) }
+    fn begin_sized(&mut self, first: FramedHead, size: usize) -> Result<(), AllocError>
+        requires head { IsAtHead self.old first }
+        requires size { HasSize first.framing size }
         ensures { ReadsOn self.old self.old.buffer self.new result }
     {
-        let behind = &self.buffer.as_slice()[head_length..];
+        let behind = &self.buffer.as_slice()[first.length..];
         let come = behind.len().min(size);
         let content = Vec::from_slice(self.alloc, &behind[..come])?;
         let octets = HashedOctets::from_vec(content);
         if come == size {
-            let used = UsedBytes::new().and(&self.buffer.as_slice()[..head_length + size]);
-            self.keep_whole(used, head_length + size, head, octets);
+            let whole = first.length + size;
+            let used = UsedBytes::new().and(&self.buffer.as_slice()[..whole]);
+            self.keep_whole(used, whole, first.head, octets);
             return Ok(());
         }
-        self.buffer.truncate(head_length);
+        self.buffer.truncate(first.length);
         self.keep_place(Progress::Sized(SizedRequest {
-            is_hashed: is_hashed_early(&head),
-            head,
+            is_hashed: is_hashed_early(&first.head),
+            head: first.head,
             length: size,
             behind: octets,
         }));
         Ok(())
     }
 
-    fn begin_chunks(&mut self, head: Head, head_length: usize) -> Result<(), AllocError>
-        requires { IsAtHead self.old head_length head Framing.Chunked }
+    fn begin_chunks(&mut self, first: FramedHead) -> Result<(), AllocError>
+        requires head { IsAtHead self.old first }
+        requires chunked { first.framing ≡ Framing.Chunked }
         ensures { ReadsOn self.old self.old.buffer self.new result }
     {
-        let used = UsedBytes::new().and(&self.buffer.as_slice()[..head_length]);
-        self.buffer.drop_front(head_length);
-        let is_hashed = is_hashed_early(&head);
+        let used = UsedBytes::new().and(&self.buffer.as_slice()[..first.length]);
+        self.buffer.drop_front(first.length);
+        let is_hashed = is_hashed_early(&first.head);
         self.read_chunks(ChunkedRequest {
-            head,
+            head: first.head,
             used,
             reader: ChunkReader::new(self.alloc, self.limit, is_hashed),
         })
@@ -247,11 +245,11 @@ impl Unparsed {
                 Ok(())
             }
             Ok(Fed::Bad) => {
-                self.keep_found(fault_of(&request.head, FrameFault::Bad), request.used);
+                self.keep_fault(request, FrameFault::Bad);
                 Ok(())
             }
             Ok(Fed::TooLarge) => {
-                self.keep_found(fault_of(&request.head, FrameFault::TooLarge), request.used);
+                self.keep_fault(request, FrameFault::TooLarge);
                 Ok(())
             }
         }
@@ -269,6 +267,19 @@ impl Unparsed {
         self.keep_found(Found::Message(Message { head, content }), used);
     }
 
+    // Keeps the fault of a body in chunks.
+    fn keep_fault(&mut self, request: ChunkedRequest, fault: FrameFault)
+        ensures { self.new ≡ record self.old {
+          progress = first_of (Found.Fault (refusal_of fault) (is_head_only request.head)) request.used;
+        } }
+    {
+        let ChunkedRequest { head, used, reader } = request;
+        let item = Found::Fault(refusal_for(fault), is_without_body(&head));
+        drop(head);
+        drop(reader);
+        self.keep_found(item, used);
+    }
+
     fn keep_found(&mut self, item: Found, used: UsedBytes)
         ensures { self.new ≡ record self.old { progress = first_of item used } }
     {
@@ -280,10 +291,4 @@ impl Unparsed {
     {
         drop(mem::replace(&mut self.progress, progress));
     }
-}
-
-fn fault_of(head: &Head, fault: FrameFault) -> Found
-    ensures { result ≡ Found.Fault (refusal_of fault) (is_head_only head.now) }
-{
-    Found::Fault(refusal_for(fault), is_without_body(head))
 }

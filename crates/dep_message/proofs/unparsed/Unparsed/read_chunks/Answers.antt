@@ -57,8 +57,8 @@ returns-in-Ok-Bad c =
     let reads = c.requires.known in
     let fed = c.in-Ok-Bad.ensures in
     let reported = rw c.in-Ok-Bad.field-0-is at (fed.reported reads.fed reads.has_fed) in
-    keeps_found w c.keep_found.new.self (r.used.items ++ w.buffer) _ r.used c.keep_found.ensures refl
-    (rw c.fault_of.ensures (faulty_now w.limit w.continued r c.as_slice-bytes.result.now w.buffer reads c.as_slice-bytes.ensures c.feed.new.self.limit c.feed.new.self.content (fed.limit ∙ reads.limit_is) _ reported))
+    keeps_found w c.keep_fault.new.self (r.used.items ++ w.buffer) _ r.used c.keep_fault.ensures refl
+    (faulty_now w.limit w.continued r c.as_slice-bytes.result.now w.buffer reads c.as_slice-bytes.ensures c.feed.new.self.limit c.feed.new.self.content (fed.limit ∙ reads.limit_is) _ reported)
 
 pub returns-in-Ok-TooLarge : goal.returns-in-Ok-TooLarge
 returns-in-Ok-TooLarge c =
@@ -67,5 +67,5 @@ returns-in-Ok-TooLarge c =
     let reads = c.requires.known in
     let fed = c.in-Ok-TooLarge.ensures in
     let reported = rw c.in-Ok-TooLarge.field-0-is at (fed.reported reads.fed reads.has_fed) in
-    keeps_found w c.keep_found-in-Ok-TooLarge.new.self (r.used.items ++ w.buffer) _ r.used c.keep_found-in-Ok-TooLarge.ensures refl
-    (rw c.fault_of-in-Ok-TooLarge.ensures (faulty_now w.limit w.continued r c.as_slice-bytes.result.now w.buffer reads c.as_slice-bytes.ensures c.feed.new.self.limit c.feed.new.self.content (fed.limit ∙ reads.limit_is) _ reported))
+    keeps_found w c.keep_fault-in-Ok-TooLarge.new.self (r.used.items ++ w.buffer) _ r.used c.keep_fault-in-Ok-TooLarge.ensures refl
+    (faulty_now w.limit w.continued r c.as_slice-bytes.result.now w.buffer reads c.as_slice-bytes.ensures c.feed.new.self.limit c.feed.new.self.content (fed.limit ∙ reads.limit_is) _ reported)
