@@ -1,6 +1,7 @@
 //! Bytes that come at the end and go at the front.
-ghost use Rattle.std.specs.Prelude.{◌≡◌, ◌≤◌, ◌++◌, [], length, take, drop, OnOk, OnErr};
+ghost use Rattle.std.specs.Prelude.{◌≡◌, ◌≤◌, ◌++◌, [], length, take, drop, IfOk, OnOk, OnErr};
 
+use crate::used::UsedBytes;
 use std::alloc::{AllocError, Global};
 use std::marker::Model;
 
@@ -51,13 +52,25 @@ impl Buffer {
         self.bytes.extend_from_slice(piece)
     }
 
-    /// Drops so many bytes at the front. It gives room back where memory allows, and never fails.
-    pub fn drop_front(&mut self, count: usize)
-        requires { count ≤ length self.old }
-        ensures { self.new ≡ drop count self.old }
+    /// A copy of the bytes behind the first `start`, of at most `count`.
+    pub fn copy_behind(&self, start: usize, count: usize) -> Result<Vec<u8>, AllocError>
+        requires { start ≤ length self.now }
+        ensures { IfOk result (λ copy. copy.items ≡ take count (drop start self.now)) }
     {
+        let behind = &self.as_slice()[start..];
+        Vec::from_slice(self.alloc, &behind[..behind.len().min(count)])
+    }
+
+    /// Drops so many bytes at the front, which are used. It gives room back where memory allows, and never fails.
+    pub fn drop_front(&mut self, count: usize) -> UsedBytes
+        requires { count ≤ length self.old }
+        ensures used { result.items ≡ take count self.old }
+        ensures rest { self.new ≡ drop count self.old }
+    {
+        let used = UsedBytes::new().and(&self.as_slice()[..count]);
         self.gone += count;
         self.free_room();
+        used
     }
 
     /// Drops all bytes. The room stays for the next ones.

@@ -1,5 +1,5 @@
 //! The bytes of a connection that no item has used, and what is known of them.
-ghost use Rattle.std.specs.Prelude.{◌≡◌, ◌≤◌, [], ◌++◌, Some, false, length, drop, IfOk, OnOk, OnErr, MatchResult};
+ghost use Rattle.std.specs.Prelude.{◌≡◌, [], ◌++◌, Some, false, IfOk, OnOk, OnErr, MatchResult};
 ghost use Rattle.dep_message.specs.Giving.{BeginsWithHead};
 ghost use Rattle.dep_message.specs.Heads.{is_head_only};
 ghost use Rattle.dep_message.specs.Places.{Open};
@@ -161,14 +161,17 @@ impl Unparsed {
         requires size { HasSize first.framing size }
         ensures { ReadsOn self.old self.old.buffer self.new result }
     {
-        let behind = &self.buffer.as_slice()[first.length..];
-        let come = behind.len().min(size);
-        let content = Vec::from_slice(self.alloc, &behind[..come])?;
+        let content = self.buffer.copy_behind(first.length, size)?;
         let octets = HashedOctets::from_vec(content);
-        if come == size {
-            let whole = first.length + size;
-            let used = UsedBytes::new().and(&self.buffer.as_slice()[..whole]);
-            self.keep_whole(used, whole, first.head, octets);
+        if octets.as_slice().len() == size {
+            let used = self.buffer.drop_front(first.length + size);
+            self.keep_found(
+                Found::Message(Message {
+                    head: first.head,
+                    content: octets,
+                }),
+                used,
+            );
             return Ok(());
         }
         self.buffer.truncate(first.length);
@@ -186,8 +189,7 @@ impl Unparsed {
         requires chunked { first.framing ≡ Framing.Chunked }
         ensures { ReadsOn self.old self.old.buffer self.new result }
     {
-        let used = UsedBytes::new().and(&self.buffer.as_slice()[..first.length]);
-        self.buffer.drop_front(first.length);
+        let used = self.buffer.drop_front(first.length);
         let is_hashed = is_hashed_early(&first.head);
         self.read_chunks(ChunkedRequest {
             head: first.head,
@@ -208,15 +210,21 @@ impl Unparsed {
         let head = self.buffer.as_slice();
         let head_length = head.len();
         let (body, rest) = request.behind.as_slice().split_at(request.length);
-        let used = UsedBytes::new().and(head).and(body);
         match self.buffer.append(rest) {
             Err(error) => {
                 self.keep_place(Progress::Sized(request));
                 Err(error)
             }
             Ok(()) => {
+                let used = self.buffer.drop_front(head_length).and(body);
                 request.behind.truncate(request.length);
-                self.keep_whole(used, head_length, request.head, request.behind);
+                self.keep_found(
+                    Found::Message(Message {
+                        head: request.head,
+                        content: request.behind,
+                    }),
+                    used,
+                );
                 Ok(())
             }
         }
@@ -241,7 +249,14 @@ impl Unparsed {
             }
             Ok(Fed::Done(count)) => {
                 let used = request.used.and(&bytes[..count]);
-                self.keep_whole(used, count, request.head, request.reader.content());
+                self.buffer.drop_front(count);
+                self.keep_found(
+                    Found::Message(Message {
+                        head: request.head,
+                        content: request.reader.content(),
+                    }),
+                    used,
+                );
                 Ok(())
             }
             Ok(Fed::Bad) => {
@@ -253,18 +268,6 @@ impl Unparsed {
                 Ok(())
             }
         }
-    }
-
-    // Keeps a whole request: its bytes, and of these so many are in the buffer, and leave it.
-    fn keep_whole(&mut self, used: UsedBytes, count: usize, head: Head, content: HashedOctets)
-        requires { count ≤ length self.old.buffer }
-        ensures { self.new ≡ record self.old {
-          buffer = drop count self.old.buffer;
-          progress = first_of (Found.Message (record { head = head; content = content })) used;
-        } }
-    {
-        self.buffer.drop_front(count);
-        self.keep_found(Found::Message(Message { head, content }), used);
     }
 
     // Keeps the fault of a body in chunks.

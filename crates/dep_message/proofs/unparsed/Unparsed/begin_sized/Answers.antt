@@ -1,10 +1,11 @@
-use Rattle.std.proofs.Common.{List, ℕ, ◌++◌, ◌+◌, ◌≤◌, ◌<◌, ◌∙◌, length, take, drop, ap, subst, arith}
+use Rattle.std.proofs.Common.{List, ℕ, ◌++◌, ◌+◌, ◌≡◌, ◌≤◌, ◌<◌, ◌∙◌, length, take, drop, ap, subst, arith, length-take}
 use Rattle.std.proofs.lemmas.List.{take_all}
 use Rattle.std.proofs.lemmas.Result.{err_from_is_err_and}
 use Rattle.dep_body.specs.declared.frame.Framing.{Framing}
-use Rattle.dep_message.specs.Working.{IsBegun}
+use Rattle.dep_message.specs.Working.{IsBegun, first_of}
+use Rattle.dep_message.specs.declared.message.Message.{Message}
+use Rattle.dep_message.specs.declared.progress.Found.TheVariants as F
 use Rattle.dep_message.proofs.Bodies.{sized_body, sized_frame}
-use Rattle.dep_message.proofs.Slices.{come_is}
 use Rattle.dep_message.proofs.Keeping.{unchanged, keeps_front, waits_behind, keeps_apart}
 use Rattle.dep_message.proofs.unparsed.Unparsed.begin_sized.Goals as goal
 
@@ -13,32 +14,31 @@ returns-in_err-content c =
     let p = err_from_is_err_and c.from_residual.result c.from_residual.ensures.1 in
     rw (p.1) (unchanged c.args.self.now c.args.first c.requires.head)
 
-pub returns-then-come-size : goal.returns-then-come-size
-returns-then-come-size c =
+pub returns-then-as_slice-size : goal.returns-then-as_slice-size
+returns-then-as_slice-size c =
     let w = c.args.self.now in
     let first = c.args.first in
     let n = first.length in
-    let all = n + c.args.size in
-    let part = come_is w.buffer c.as_slice.result.now n c.args.size c.min-come.result c.in_ok-content.content.items c.as_slice.ensures c.min-come.ensures c.in_ok-content.ensures.items in
-    let full : c.args.size ≤ length (drop n w.buffer) = omega (arith, part.0, c.if-come-size.true) in
-    let used_is = c.and-used.ensures ∙ (ap (λ (l : List ℕ). l ++ take all c.as_slice-then-come-size.result.now) c.new.ensures ∙ ap (take all) c.as_slice-then-come-size.ensures) in
-    let content_is = c.from_vec-octets.ensures ∙ (part.1 ∙ ap (λ k. take k (drop n w.buffer)) c.if-come-size.true) in
-    keeps_front w c.keep_whole.new.self c.and-used.result n c.args.size _ _ c.requires.head.begun
-    (sized_body w.limit first.framing c.args.size (drop n w.buffer) _ c.requires.size full content_is) used_is c.keep_whole.ensures
+    let used = c.drop_front-used.result in
+    let m : Message = record { head = first.head; content = c.from_vec-octets.result } in
+    let come : m.content ≡ take c.args.size (drop n w.buffer) = c.from_vec-octets.ensures ∙ c.in_ok-content.ensures in
+    let full : c.args.size ≤ length (drop n w.buffer) = omega (arith, length-take c.args.size (drop n w.buffer), ap length (c.as_slice.ensures ∙ come), c.if-as_slice-size.true) in
+    keeps_front w c.keep_found.new.self used n c.args.size first.framing m c.requires.head.begun
+    (sized_body w.limit first.framing c.args.size (drop n w.buffer) m.content c.requires.size full come) c.drop_front-used.ensures.used
+    (c.keep_found.ensures ∙ ap (λ (b : List ℕ). record w { buffer = b; progress = first_of (F.Message m) used }) c.drop_front-used.ensures.rest)
 
 pub returns : goal.returns
 returns c =
     let w = c.args.self.now in
     let first = c.args.first in
     let n = first.length in
-    let part = come_is w.buffer c.as_slice.result.now n c.args.size c.min-come.result c.in_ok-content.content.items c.as_slice.ensures c.min-come.ensures c.in_ok-content.ensures.items in
-    let less : length (drop n w.buffer) < c.args.size = omega (arith, part.0, c.if-come-size.false) in
-    let all : length (drop n w.buffer) ≤ c.min-come.result = omega (arith, part.0) in
+    let come : c.from_vec-octets.result ≡ take c.args.size (drop n w.buffer) = c.from_vec-octets.ensures ∙ c.in_ok-content.ensures in
+    let less : length (drop n w.buffer) < c.args.size = omega (arith, length-take c.args.size (drop n w.buffer), ap length (c.as_slice.ensures ∙ come), c.if-as_slice-size.false) in
     let begun = subst (λ (f : Framing). IsBegun w.limit w.continued (take n w.buffer) first.head f) (sized_frame first.framing c.args.size c.requires.size (omega (arith, less))) c.requires.head.begun in
     let place = c.keep_place.ensures in
     let progress_is = ap (λ w. w.progress) place in (
       keeps_apart w c.keep_place.new.self n (record { head = first.head; length = c.args.size; is_hashed = c.is_hashed_early.result; behind = c.from_vec-octets.result }) begun
-          (c.from_vec-octets.ensures ∙ (part.1 ∙ take_all c.min-come.result (drop n w.buffer) all))
+          (come ∙ take_all c.args.size (drop n w.buffer) (omega (arith, less)))
           (ap (λ w. w.limit) place) (ap (λ w. w.continued) place) (ap (λ w. w.buffer) place ∙ c.truncate.ensures) progress_is,
       rw progress_is (waits_behind w.limit w.continued w.buffer n first.head _ begun less),
     )
