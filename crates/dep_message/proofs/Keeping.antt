@@ -1,8 +1,8 @@
 -- What is kept of the bytes.
-use Rattle.std.proofs.Common.{◌≡◌, ℕ, ◌+◌, ◌≤◌, Bool, false, List, [], ◌++◌, length, take, drop, sym, ap, subst, ◌∙◌, append-nil, append_assoc, refl}
+use Rattle.std.proofs.Common.{◌≡◌, ℕ, ◌+◌, ◌<◌, ◌≤◌, Bool, None, arith, inl, false, List, [], ◌++◌, length, take, drop, sym, ap, subst, ◌∙◌, append-nil, append_assoc, refl}
 use Rattle.std.proofs.lemmas.List.{length-take-le, take-append-drop}
-use Rattle.std.proofs.Math.Seq.{take-add, drop-append_seam}
-use Rattle.dep_head.specs.Head.{HeadParts}
+use Rattle.std.proofs.Math.Seq.{take-add, take-length}
+use Rattle.dep_head.specs.Head.{HeadParts, head_end, head_limit}
 use Rattle.dep_body.specs.declared.frame.Framing.{Framing}
 use Rattle.dep_message.specs.Giving.{BeginsWithHead}
 use Rattle.dep_message.specs.Places.{Reading, Open}
@@ -17,7 +17,7 @@ use Rattle.dep_message.specs.declared.progress.Found.TheVariants as F
 use Rattle.dep_body.specs.Body.{IsBodyText, IsPartOfBody}
 use Rattle.dep_body.specs.declared.frame.Framing.TheVariants.{Length}
 use Rattle.dep_message.specs.declared.progress.Progress.{Progress}
-use Rattle.dep_message.specs.declared.progress.Progress.TheVariants.{Sized, Chunked}
+use Rattle.dep_message.specs.declared.progress.Progress.TheVariants.{Searched, Sized, Chunked}
 use Rattle.dep_message.specs.declared.progress.SizedRequest.{SizedRequest}
 use Rattle.dep_message.specs.declared.progress.ChunkedRequest.{ChunkedRequest}
 use Rattle.dep_message.specs.declared.used.UsedBytes.{UsedBytes}
@@ -39,10 +39,20 @@ keeps_fresh limit continued bytes unparsed fresh same_limit same_continued same_
   known = subst (λ (p : Progress). IsKnown unparsed.limit unparsed.continued unparsed.buffer p) (sym fresh) (searched_none unparsed.buffer);
 }
 
--- the head of a request with some bytes behind it, which stand apart
-pub keeps_sized : (unparsed : Unparsed) (request : SizedRequest) → IsBegun unparsed.limit unparsed.continued unparsed.buffer request.head (Length request.length)
-    → Keeps unparsed.limit unparsed.continued (unparsed.buffer ++ request.behind) (record unparsed { progress = Sized request })
-keeps_sized unparsed request begun = record { limit_is = refl; continued_is = refl; bytes_are = refl; known = begun }
+-- no head ends in the bytes, and all were searched
+pub keeps_searched : (unparsed new : Unparsed) (n : ℕ) → new ≡ record unparsed { progress = Searched n } → n ≡ length unparsed.buffer
+    → (head_end unparsed.buffer ≡ None) × (length unparsed.buffer < head_limit) → IsFoundIn unparsed unparsed.buffer new
+keeps_searched unparsed new n new_is n_is waits =
+    let all : take n unparsed.buffer ≡ unparsed.buffer = ap (λ k. take k unparsed.buffer) n_is ∙ take-length unparsed.buffer in
+    subst (IsFoundIn unparsed unparsed.buffer) (sym new_is) (
+      record { limit_is = refl; continued_is = refl; bytes_are = refl; known = record { within = omega (arith, n_is); no_end = ap head_end all ∙ waits.0 } },
+      inl waits,
+    )
+
+-- the head of a request was used, and the bytes behind it stand apart
+pub keeps_sized : (unparsed : Unparsed) (request : SizedRequest) → IsKnown unparsed.limit unparsed.continued unparsed.buffer (Sized request)
+    → Keeps unparsed.limit unparsed.continued (request.used.items ++ request.behind) (record unparsed { progress = Sized request })
+keeps_sized unparsed request known = record { limit_is = refl; continued_is = refl; bytes_are = refl; known = known }
 
 -- the bytes of a request in chunks that were used, and others behind them
 pub keeps_chunked : (unparsed : Unparsed) (request : ChunkedRequest) → ReadsChunks unparsed.limit unparsed.continued request
@@ -104,28 +114,29 @@ waits_behind limit continued bytes n head frame begun part =
 
 -- from here on the bytes behind the head stand apart
 pub keeps_apart : (old new : Unparsed) (n : ℕ) (request : SizedRequest) → IsBegun old.limit old.continued (take n old.buffer) request.head (Length request.length)
-    → request.behind ≡ drop n old.buffer → new.limit ≡ old.limit → new.continued ≡ old.continued → new.buffer ≡ take n old.buffer
-    → new.progress ≡ Sized request → Keeps old.limit old.continued old.buffer new
-keeps_apart old new n request begun behind same_limit same_continued front place = record {
-  limit_is = same_limit;
-  continued_is = same_continued;
-  bytes_are = ap (λ (p : Progress). bytes_with p new.buffer) place ∙ (ap (λ l. l ++ request.behind) front ∙ (ap (λ l. take n old.buffer ++ l) behind ∙ take-append-drop n old.buffer));
-  known = subst (λ (p : Progress). IsKnown new.limit new.continued new.buffer p) (sym place) (rw (same_limit, same_continued, front) begun);
-}
+    → request.used.items ≡ take n old.buffer → request.behind ≡ drop n old.buffer → new ≡ record old { buffer = []; progress = Sized request }
+    → Keeps old.limit old.continued old.buffer new
+keeps_apart old new n request begun used_is behind_is new_is =
+    subst (Keeps old.limit old.continued old.buffer) (sym new_is) (record {
+      limit_is = refl;
+      continued_is = refl;
+      bytes_are = ap (λ l. l ++ request.behind) used_is ∙ (ap (λ l. take n old.buffer ++ l) behind_is ∙ take-append-drop n old.buffer);
+      known = (refl, subst (λ (l : List ℕ). IsBegun old.limit old.continued l request.head (Length request.length)) (sym used_is) begun);
+    })
 
 -- a whole request was found, of which the bytes behind the head stood apart
-pub keeps_body : (unparsed new : Unparsed) (behind all : List ℕ) (used : UsedBytes) (n size : ℕ) (m : Message) → n ≡ length unparsed.buffer
-    → all ≡ unparsed.buffer ++ drop size behind → used.items ≡ unparsed.buffer ++ take size behind → size ≤ length behind
-    → IsBegun unparsed.limit unparsed.continued unparsed.buffer m.head (Length size) → m.content ≡ take size behind
-    → new ≡ record unparsed { buffer = drop n all; progress = first_of (F.Message m) used } → IsFoundIn unparsed (unparsed.buffer ++ behind) new
-keeps_body unparsed new behind all used n size m n_is all_is used_is within begun content new_is =
-    let rest : drop n all ≡ drop size behind =
-    ap (λ k. drop k all) n_is ∙ (ap (drop (length unparsed.buffer)) all_is ∙ drop-append_seam unparsed.buffer (drop size behind)) in
-    keeps_request (record unparsed { buffer = all }) new (unparsed.buffer ++ behind) used n m new_is
-    (ap (λ l. l ++ drop n all) used_is ∙ (ap (λ l. (unparsed.buffer ++ take size behind) ++ l) rest
-    ∙ (append_assoc unparsed.buffer (take size behind) (drop size behind) ∙ ap (λ l. unparsed.buffer ++ l) (take-append-drop size behind))))
+pub keeps_body : (unparsed new : Unparsed) (request : SizedRequest) (used : UsedBytes) (rest : List ℕ) (m : Message)
+    → IsBegun unparsed.limit unparsed.continued request.used.items m.head (Length request.length) → request.length ≤ length request.behind
+    → used.items ≡ request.used.items ++ take request.length request.behind → rest ≡ drop request.length request.behind
+    → m.content ≡ take request.length request.behind → new ≡ record unparsed { buffer = rest; progress = first_of (F.Message m) used }
+    → IsFoundIn unparsed (request.used.items ++ request.behind) new
+keeps_body unparsed new request used rest m begun within used_is rest_is content_is new_is =
+    let front = request.used.items in
+    let body = take request.length request.behind in
+    keeps_found (record unparsed { buffer = rest }) new (front ++ request.behind) (F.Message m) used new_is
+    (ap (λ l. l ++ rest) used_is ∙ (append_assoc front body rest ∙ ap (λ l. front ++ l) (ap (λ l. body ++ l) rest_is ∙ take-append-drop request.length request.behind)))
     (subst (λ (l : List ℕ). IsRequestText unparsed.limit unparsed.continued l m) (sym used_is)
-    (whole_request unparsed.limit unparsed.continued unparsed.buffer (take size behind) m (Length size) begun (length-take-le size behind within, content)))
+    (whole_request unparsed.limit unparsed.continued front body m (Length request.length) begun (length-take-le request.length request.behind within, content_is)))
 
 -- where memory is refused, the reading stands where it stood
 pub stands_still : (unparsed new : Unparsed) (standing : Standing) (reading : Reading) → standing ≡ Live → reading_of standing unparsed ≡ reading

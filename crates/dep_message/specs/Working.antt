@@ -48,11 +48,11 @@ pub record ReadsChunks (limit : ℕ) (continued : Bool) (request : ChunkedReques
   pub has_fed : HasFed request.reader fed
   pub part : IsPartOfBody limit InChunks fed
 
--- the bytes of the buffer with those that stand apart from it: before it, where they were used and are in memory
--- no more, or behind it
+-- the bytes of the buffer behind those that were used and are in memory no more; those of a body of known length
+-- stand apart, and none are in the buffer
 abbrev pub bytes_with : Progress → List ℕ → List ℕ
 bytes_with (Searched n) buffer = buffer
-bytes_with (Sized request) buffer = buffer ++ request.behind
+bytes_with (Sized request) buffer = request.used.items ++ request.behind
 bytes_with (Chunked request) buffer = request.used.items ++ buffer
 bytes_with (First first) buffer = first.used.items ++ buffer
 
@@ -75,7 +75,7 @@ IsFound limit continued buffer first = IsItem limit continued first.used.items b
 abbrev pub IsKnown : ℕ → Bool → List ℕ → Progress → Type 0
 IsKnown limit continued buffer (Searched n) = IsSearched n buffer
 IsKnown limit continued buffer (Sized request) =
-    IsBegun limit continued buffer request.head (Length request.length)
+    (buffer ≡ []) × IsBegun limit continued request.used.items request.head (Length request.length)
 IsKnown limit continued buffer (Chunked request) = ReadsChunks limit continued request
 IsKnown limit continued buffer (First first) = IsFound limit continued buffer first
 

@@ -81,16 +81,6 @@ impl Buffer {
         self.gone = 0;
     }
 
-    /// Keeps at most so many bytes, those at the front. It gives room back where memory allows, and never fails.
-    pub fn truncate(&mut self, count: usize)
-        ensures { self.new ≡ take count self.old }
-    {
-        if count < self.as_slice().len() {
-            self.bytes.truncate(self.gone + count);
-            self.free_room();
-        }
-    }
-
     // Moves what is left into room of its own size, where it is less than a quarter of the room and memory allows. So no
     // more bytes are moved than are gone.
     fn free_room(&mut self)

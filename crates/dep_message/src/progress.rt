@@ -16,6 +16,8 @@ use std::mem;
 #[derive(Drop)]
 pub(crate) struct SizedRequest {
     pub head: Head,
+    /// The bytes of the head.
+    pub used: UsedBytes,
     /// How many bytes the body has.
     pub length: usize,
     /// The bytes behind the head, which grow as they come.
@@ -66,6 +68,7 @@ impl SizedRequest {
     /// than its length.
     pub fn append(&mut self, piece: &[u8]) -> Result<(), AllocError>
         ensures head { self.new.head ≡ self.old.head }
+        ensures used { self.new.used ≡ self.old.used }
         ensures length { self.new.length ≡ self.old.length }
         ensures ok { OnOk result (self.new.behind ≡ self.old.behind ++ piece.now) }
         ensures err { OnErr result (self.new.behind ≡ self.old.behind) }

@@ -165,19 +165,19 @@ impl Unparsed {
         let octets = HashedOctets::from_vec(content);
         if octets.as_slice().len() == size {
             let used = self.buffer.drop_front(first.length + size);
-            self.keep_found(
-                Found::Message(Message {
-                    head: first.head,
-                    content: octets,
-                }),
-                used,
-            );
+            let message = Message {
+                head: first.head,
+                content: octets,
+            };
+            self.keep_found(Found::Message(message), used);
             return Ok(());
         }
-        self.buffer.truncate(first.length);
+        let front = self.buffer.drop_front(first.length);
+        self.buffer.clear();
         self.keep_place(Progress::Sized(SizedRequest {
             is_hashed: is_hashed_early(&first.head),
             head: first.head,
+            used: front,
             length: size,
             behind: octets,
         }));
@@ -198,33 +198,29 @@ impl Unparsed {
         })
     }
 
-    // Reads on where the bytes are a head, and those behind it stand apart.
+    // Reads on where the head was used, and the bytes behind it stand apart.
     fn read_sized(&mut self, mut request: SizedRequest) -> Result<(), AllocError>
         requires { HasLeft self.old (Sized request) }
-        ensures { ReadsOn self.old (self.old.buffer ++ request.behind) self.new result }
+        ensures { ReadsOn self.old (request.used.items ++ request.behind) self.new result }
     {
         if request.behind.as_slice().len() < request.length {
             self.keep_place(Progress::Sized(request));
             return Ok(());
         }
-        let head = self.buffer.as_slice();
-        let head_length = head.len();
         let (body, rest) = request.behind.as_slice().split_at(request.length);
+        let used = request.used.and(body);
         match self.buffer.append(rest) {
             Err(error) => {
                 self.keep_place(Progress::Sized(request));
                 Err(error)
             }
             Ok(()) => {
-                let used = self.buffer.drop_front(head_length).and(body);
                 request.behind.truncate(request.length);
-                self.keep_found(
-                    Found::Message(Message {
-                        head: request.head,
-                        content: request.behind,
-                    }),
-                    used,
-                );
+                let message = Message {
+                    head: request.head,
+                    content: request.behind,
+                };
+                self.keep_found(Found::Message(message), used);
                 Ok(())
             }
         }
@@ -250,13 +246,11 @@ impl Unparsed {
             Ok(Fed::Done(count)) => {
                 let used = request.used.and(&bytes[..count]);
                 self.buffer.drop_front(count);
-                self.keep_found(
-                    Found::Message(Message {
-                        head: request.head,
-                        content: request.reader.content(),
-                    }),
-                    used,
-                );
+                let message = Message {
+                    head: request.head,
+                    content: request.reader.content(),
+                };
+                self.keep_found(Found::Message(message), used);
                 Ok(())
             }
             Ok(Fed::Bad) => {

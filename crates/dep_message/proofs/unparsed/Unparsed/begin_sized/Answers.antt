@@ -1,10 +1,12 @@
-use Rattle.std.proofs.Common.{List, ℕ, ◌++◌, ◌+◌, ◌≡◌, ◌≤◌, ◌<◌, ◌∙◌, length, take, drop, ap, subst, arith, length-take}
+use Rattle.std.proofs.Common.{List, ℕ, ◌++◌, ◌+◌, ◌≡◌, ◌≤◌, ◌<◌, ◌∙◌, length, take, drop, ap, subst, arith, length-take, length-drop}
 use Rattle.std.proofs.lemmas.List.{take_all}
 use Rattle.std.proofs.lemmas.Result.{err_from_is_err_and}
 use Rattle.dep_body.specs.declared.frame.Framing.{Framing}
 use Rattle.dep_message.specs.Working.{IsBegun, first_of}
 use Rattle.dep_message.specs.declared.message.Message.{Message}
 use Rattle.dep_message.specs.declared.progress.Found.TheVariants as F
+use Rattle.dep_message.specs.declared.progress.Progress.TheVariants.{Sized}
+use Rattle.dep_message.specs.declared.progress.SizedRequest.{SizedRequest}
 use Rattle.dep_message.proofs.Bodies.{sized_body, sized_frame}
 use Rattle.dep_message.proofs.Keeping.{unchanged, keeps_front, waits_behind, keeps_apart}
 use Rattle.dep_message.proofs.unparsed.Unparsed.begin_sized.Goals as goal
@@ -35,10 +37,15 @@ returns c =
     let come : c.from_vec-octets.result ≡ take c.args.size (drop n w.buffer) = c.from_vec-octets.ensures ∙ c.in_ok-content.ensures in
     let less : length (drop n w.buffer) < c.args.size = omega (arith, length-take c.args.size (drop n w.buffer), ap length (c.as_slice.ensures ∙ come), c.if-as_slice-size.false) in
     let begun = subst (λ (f : Framing). IsBegun w.limit w.continued (take n w.buffer) first.head f) (sized_frame first.framing c.args.size c.requires.size (omega (arith, less))) c.requires.head.begun in
-    let place = c.keep_place.ensures in
-    let progress_is = ap (λ w. w.progress) place in (
-      keeps_apart w c.keep_place.new.self n (record { head = first.head; length = c.args.size; is_hashed = c.is_hashed_early.result; behind = c.from_vec-octets.result }) begun
-          (come ∙ take_all c.args.size (drop n w.buffer) (omega (arith, less)))
-          (ap (λ w. w.limit) place) (ap (λ w. w.continued) place) (ap (λ w. w.buffer) place ∙ c.truncate.ensures) progress_is,
-      rw progress_is (waits_behind w.limit w.continued w.buffer n first.head _ begun less),
+    let request : SizedRequest = record { head = first.head; used = c.drop_front-front.result; length = c.args.size; is_hashed = c.is_hashed_early.result; behind = c.from_vec-octets.result } in
+    let new_is = c.keep_place.ensures ∙ ap (λ (b : List ℕ). record w { buffer = b; progress = Sized request }) c.clear.ensures in (
+      keeps_apart w c.keep_place.new.self n request begun c.drop_front-front.ensures.used (come ∙ take_all c.args.size (drop n w.buffer) (omega (arith, less))) new_is,
+      rw (ap (λ w. w.progress) new_is) (waits_behind w.limit w.continued w.buffer n first.head _ begun less),
     )
+
+pub drop_front-used-requires : goal.drop_front-used-requires
+drop_front-used-requires c =
+    let w = c.args.self.now in
+    let n = c.args.first.length in
+    let come : c.from_vec-octets.result ≡ take c.args.size (drop n w.buffer) = c.from_vec-octets.ensures ∙ c.in_ok-content.ensures in
+    omega (arith, length-take c.args.size (drop n w.buffer), length-drop n w.buffer, ap length (c.as_slice.ensures ∙ come), c.if-as_slice-size.true, c.requires.head.within)

@@ -11,6 +11,18 @@ returns-in-Chunked c =
     subst (λ (p : Progress). ReadsOn w (bytes_with p w.buffer) c.read_chunks.new.self c.read_chunks.result)
     (sym (sym c.replace.ensures.value ∙ c.in-Chunked.is)) c.read_chunks.ensures
 
+pub returns-in-Sized : goal.returns-in-Sized
+returns-in-Sized c =
+    let w = c.args.self.now in
+    subst (λ (p : Progress). ReadsOn w (bytes_with p w.buffer) c.read_sized.new.self c.read_sized.result)
+    (sym (sym c.replace.ensures.value ∙ c.in-Sized.is)) c.read_sized.ensures
+
+pub returns-in-Searched : goal.returns-in-Searched
+returns-in-Searched c =
+    let w = c.args.self.now in
+    subst (λ (p : Progress). ReadsOn w (bytes_with p w.buffer) c.search.new.self c.search.result)
+    (sym (sym c.replace.ensures.value ∙ c.in-Searched.is)) c.search.ensures
+
 pub returns-in-First : goal.returns-in-First
 returns-in-First c =
     let w = c.args.self.now in
