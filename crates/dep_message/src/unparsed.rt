@@ -163,7 +163,8 @@ impl Unparsed {
     {
         let content = self.buffer.copy_behind(first.length, size)?;
         let octets = HashedOctets::from_vec(content);
-        if octets.as_slice().len() == size {
+        let come = octets.as_slice().len();
+        if come == size {
             let used = self.buffer.drop_front(first.length + size);
             let message = Message {
                 head: first.head,
@@ -173,7 +174,7 @@ impl Unparsed {
             return Ok(());
         }
         let front = self.buffer.drop_front(first.length);
-        self.buffer.clear();
+        self.buffer.drop_front(come);
         self.keep_place(Progress::Sized(SizedRequest {
             is_hashed: is_hashed_early(&first.head),
             head: first.head,

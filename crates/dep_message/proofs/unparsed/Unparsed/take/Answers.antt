@@ -1,8 +1,9 @@
-use Rattle.std.proofs.Common.{sym, ◌∙◌, ◌≡◌, subst, Some, inl, inr}
-use Rattle.dep_message.specs.Working.{Finds, IsKnown, bytes_with}
+use Rattle.std.proofs.Common.{sym, ap, refl, ◌∙◌, ◌≡◌, subst, Some, inl, inr}
+use Rattle.dep_message.specs.Working.{Finds, IsKnown, Keeps, bytes_with, kept_bytes}
 use Rattle.dep_message.specs.declared.progress.Progress.{Progress}
 use Rattle.dep_message.specs.declared.progress.Progress.TheVariants.{First}
-use Rattle.dep_message.proofs.Shown.{takes_found}
+use Rattle.dep_message.specs.declared.unparsed.Unparsed.{Unparsed}
+use Rattle.dep_message.proofs.Shown.{takes_found, waits_on}
 use Rattle.dep_message.proofs.unparsed.Unparsed.take.Goals as goal
 use Rattle.dep_message.proofs.unparsed.Unparsed.take.Goals.{in-Continue, in_default-matches}
 
@@ -18,3 +19,11 @@ returns-after-matches c =
       | in-Continue t ↦ inl (t.in-Continue.is, t.self-is)
       | in_default-matches t ↦ inr (t.in_default-matches.not-Continue, t.self-is)
     ]))
+
+pub returns-in_default : goal.returns-in_default
+returns-in_default c =
+    let w = c.args.self.now in
+    let same = c.keep_place.ensures ∙ ap (λ (p : Progress). record w { progress = p }) c.replace.ensures.value in (
+      waits_on w.limit w.continued (kept_bytes w) w.progress c.requires.read (λ first is. c.in_default.not-First first (c.replace.ensures.value ∙ is)),
+      subst (λ (new : Unparsed). Keeps w.limit w.continued (kept_bytes w) new) (sym same) (record { limit_is = refl; continued_is = refl; bytes_are = refl; known = c.requires.known }),
+    )
