@@ -1,7 +1,7 @@
 -- A true view tells which rule is the first to apply.
 use Rattle.std.proofs.Common.{◌≡◌, ◌∙◌, ℕ, Bool, true, false, List, [], ◌∷◌, map, Option, Some, None, is_some, option_map, option_and_then, if◌then◌else◌, refl, sym, ap, subst}
 use Rattle.std.specs.List.{cons_option}
-use Rattle.std.specs.Option.{option_map_or}
+use Rattle.std.specs.Option.{option_map_or, option_or}
 use Rattle.std.specs.FinMap as finmap
 use Rattle.std.specs.FinSet as set
 use Rattle.dep_types.specs.Maps.{◌>>=◌, first_of}
@@ -311,21 +311,17 @@ module _ (config : Config) (s : State) (op : Operation) (is : kind_of op ≡ Som
 pub rules_by : (config : Config) (view : View) (op : Operation) (ruling : Ruling) → IsSeen config view op ruling → RulesBy config view op ruling
 rules_by config view op ruling is s truly = reported config s op ruling (subst (λ v. IsSeen config v op ruling) truly is)
 
--- so is a refusal by what is seen before any digest is taken, whatever the rules on a content come to
-pub refuses_undigested : (config : Config) (view : View) (op : Operation) (access content : Option Refusal) → access ≡ access_refusal config (in_view view) op
-    → content ≡ content_refusal config (in_view view) op → RefusesUndigested config view op (first_of (access ∷ content ∷ []))
-refuses_undigested config view op access content a b s truly =
-    (λ i. first_of (a i ∷ b i ∷ []))
-    ∙ ap (λ v. refusal_before_room config (in_view v) op) truly
-    ∙ seen_undigested_truly config s op
+-- so is what rules 5 to 14 come to by what is seen before any digest is taken
+pub refuses_undigested : (config : Config) (view : View) (op : Operation) (refused : Option Refusal) → refused ≡ refusal_before_room config (in_view view) op
+    → RefusesUndigested config view op refused
+refuses_undigested config view op refused is s truly =
+    is ∙ ap (λ v. refusal_before_room config (in_view v) op) truly ∙ seen_undigested_truly config s op
 
 -- and by what is seen before any upload that references name is looked up
-pub refuses_unnamed : (config : Config) (view : View) (op : Operation) (access content : Option Refusal) → access ≡ access_refusal config (in_view view) op
-    → content ≡ content_refusal config (in_view view) op → RefusesUnnamed config view op (first_of (access ∷ content ∷ []))
-refuses_unnamed config view op access content a b s is truly =
-    (λ i. first_of (a i ∷ b i ∷ []))
-    ∙ ap (λ v. refusal_before_room config (in_view v) op) truly
-    ∙ seen_unnamed_truly config s op is
+pub refuses_unnamed : (config : Config) (view : View) (op : Operation) (refused : Option Refusal) → refused ≡ refusal_before_room config (in_view view) op
+    → RefusesUnnamed config view op refused
+refuses_unnamed config view op refused is s referred truly =
+    is ∙ ap (λ v. refusal_before_room config (in_view v) op) truly ∙ seen_unnamed_truly config s op referred
 
 -- ---- an upload, as it is seen before its digests are taken
 
@@ -338,34 +334,25 @@ segments_seen s u = ap (λ b. unless b BadRequest) (passes_is (λ l. l.is_whole)
 -- ---- rulings by what is seen
 
 module _ (config : Config) (view : View) (op : Operation) where
-  abbrev parts : (access content : Option Refusal) → Option Refusal
-  parts a c = first_of (a ∷ c ∷ room_rule config (in_view view) op ∷ [])
+  room_last : (access content room : Option Refusal) → first_of (access ∷ content ∷ room ∷ []) ≡ option_or (first_of (access ∷ content ∷ [])) room
+  room_last None None None = refl
+  room_last None None (Some r) = refl
+  room_last None (Some r) room = refl
+  room_last (Some r) content room = refl
 
-  pub refused_access : (r : Refusal) (o : Option Refusal) → o ≡ access_refusal config (in_view view) op → o ≡ Some r → IsSeen config view op (Refuse r)
+  -- the rule on room comes last
+  seen_before_room : (before : Option Refusal) → refusal_before_room config (in_view view) op ≡ before → refusal_by config (in_view view) op ≡ option_or before (room_rule config (in_view view) op)
   unfolding refusal_by
-  refused_access r o is e = ap (λ a. parts a (content_refusal config (in_view view) op)) (sym is ∙ e)
+  seen_before_room before is =
+      room_last (access_refusal config (in_view view) op) (content_refusal config (in_view view) op) (room_rule config (in_view view) op)
+      ∙ ap (λ m. option_or m (room_rule config (in_view view) op)) is
 
-  pub refused_content : (r : Refusal) (o : Option Refusal) → o ≡ access_refusal config (in_view view) op → o ≡ None → content_refusal config (in_view view) op ≡ Some r → IsSeen config view op (Refuse r)
-  unfolding refusal_by
-  refused_content r o is e content =
-      ap (λ a. parts a (content_refusal config (in_view view) op)) (sym is ∙ e)
-      ∙ ap (parts None) content
+  pub refused_before_room : (r : Refusal) → refusal_before_room config (in_view view) op ≡ Some r → IsSeen config view op (Refuse r)
+  refused_before_room r before = seen_before_room (Some r) before
 
-  single : (m : Option Refusal) → first_of (m ∷ []) ≡ m
-  single None = refl
-  single (Some r) = refl
-
-  seen_by_room : access_refusal config (in_view view) op ≡ None → content_refusal config (in_view view) op ≡ None → refusal_by config (in_view view) op ≡ room_rule config (in_view view) op
-  unfolding refusal_by
-  seen_by_room access content =
-      ap (λ a. parts a (content_refusal config (in_view view) op)) access
-      ∙ ap (parts None) content
-      ∙ single (room_rule config (in_view view) op)
-
-  pub ruled_by_room : (o : Option Refusal) (ruling : Ruling) → o ≡ access_refusal config (in_view view) op → o ≡ None → content_refusal config (in_view view) op ≡ None
-      → IsRoomRuling config view op ruling → IsSeen config view op ruling
-  ruled_by_room o (Refuse r) is e content room = seen_by_room (sym is ∙ e) content ∙ room
-  ruled_by_room o (Do d) is e content room = (seen_by_room (sym is ∙ e) content ∙ room.0, room.1)
+  pub ruled_by_room : (ruling : Ruling) → refusal_before_room config (in_view view) op ≡ None → IsRoomRuling config view op ruling → IsSeen config view op ruling
+  ruled_by_room (Refuse r) before room = seen_before_room None before ∙ room
+  ruled_by_room (Do d) before room = (seen_before_room None before ∙ room.0, room.1)
 
   passed : (b : Bool) (r : Refusal) → unless b r ≡ None → b ≡ true
   passed true r e = refl

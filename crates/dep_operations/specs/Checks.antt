@@ -1,9 +1,10 @@
--- What is known after the rules on a content, and after the last rule.
-use Rattle.std.specs.Prelude.{◌≡◌, Some, None}
+-- What is known after some of the rules before the last one, and after that.
+use Rattle.std.specs.Prelude.{◌≡◌, Option, Some, None}
 use Rattle.dep_types.specs.declared.config.Config.{Config}
+use Rattle.dep_types.specs.declared.refusal.Refusal.{Refusal}
 use Rattle.dep_decisions.specs.Asked.{IsRead}
 use Rattle.dep_decisions.specs.Decisions.{decision_with}
-use Rattle.dep_decisions.specs.Rules.{content_by, content_refusal, room_rule}
+use Rattle.dep_decisions.specs.Rules.{room_rule}
 use Rattle.dep_decisions.specs.declared.operation.Operation.{Operation}
 use Rattle.dep_operations.specs.Seen.{in_view}
 use Rattle.dep_operations.specs.declared.order.Checked.{Checked}
@@ -12,17 +13,10 @@ use Rattle.dep_operations.specs.declared.ruling.Ruling.{Ruling}
 use Rattle.dep_operations.specs.declared.ruling.Ruling.TheVariants.{Do, Refuse}
 use Rattle.dep_operations.specs.declared.view.View.{View}
 
--- the first of the rules on a content that applies, or none, and then what was read of it
-abbrev pub IsChecked : Config → View → Operation → Checked → Type 0
-IsChecked config view op (Refused r) = content_refusal config (in_view view) op ≡ Some r
-IsChecked config view op (Passed read) =
-    (content_refusal config (in_view view) op ≡ None) × IsRead op read
-
--- the same for a method that has a content
-abbrev pub IsCheckedBy : Config → View → Operation → Checked → Type 0
-IsCheckedBy config view op (Refused r) = content_by config (in_view view) op ≡ Some r
-IsCheckedBy config view op (Passed read) =
-    (content_by config (in_view view) op ≡ None) × IsRead op read
+-- refused for what these rules refuse it for, or passed where they refuse nothing, and then read so far
+abbrev pub IsChecked : (refused : Option Refusal) → Operation → Checked → Type 0
+IsChecked refused op (Refused r) = refused ≡ Some r
+IsChecked refused op (Passed read) = (refused ≡ None) × IsRead op read
 
 -- whether the numbers can be given, and then what is asked for
 abbrev pub IsRoomRuling : Config → View → Operation → Ruling → Type 0

@@ -1,12 +1,12 @@
 //! The ruling on a request, from a view of the archive.
-ghost use Rattle.std.specs.Prelude.{◌≡◌, IfOk, Some, is_some, option_map};
+ghost use Rattle.std.specs.Prelude.{◌≡◌, IfOk, IfSome, option_map};
 ghost use Rattle.dep_types.specs.declared.config.Config.{Config};
+ghost use Rattle.dep_fixity.specs.Fixity.{digests_of};
 ghost use Rattle.dep_decisions.specs.Asked.{IsRead};
-ghost use Rattle.dep_fields.specs.declared.kind.Kind.TheVariants as of;
 ghost use Rattle.dep_decisions.specs.Kinds.{kind_of};
 ghost use Rattle.dep_decisions.specs.Purposes.{kind_for};
-ghost use Rattle.dep_decisions.specs.Rules.{access_refusal, document_rule, has_content, reads_alone};
-ghost use Rattle.dep_docs_in.specs.Documents.{metadata_read};
+ghost use Rattle.dep_decisions.specs.Laws.{refusal_before_room};
+ghost use Rattle.dep_decisions.specs.Rules.{access_refusal, content_by, document_rule, has_content, reads_alone};
 ghost use Rattle.dep_operations.specs.Checks.{IsChecked, IsRoomRuling};
 ghost use Rattle.dep_operations.specs.Seen.{in_view};
 ghost use Rattle.dep_operations.specs.Rulings.{HasRoomFor, RefusesUndigested, RefusesUnnamed, RulesBy};
@@ -20,7 +20,8 @@ use dep_decisions::{
     numbers_for,
 };
 use dep_docs_in::{DocFault, read_metadata};
-use dep_types::{Config, Metadata, Method, Refusal, Resource, Target};
+use dep_fixity::Digests;
+use dep_types::{Config, Method, Refusal, Resource, Target};
 use std::alloc::{AllocError, Global};
 
 /// Returns the ruling on a request, where the archive is seen so at the numbers that it touches: the first
@@ -39,10 +40,7 @@ pub fn decide(
     // What is let through can be given its numbers.
     ensures room { IfOk result (HasRoomFor view.now.next) }
 {
-    if let Some(refusal) = access_rule(config, view, operation) {
-        return Ok(Ruling::Refuse(refusal));
-    }
-    match check_content(alloc, config, view, operation, purpose)? {
+    match check(alloc, config, view, operation, purpose)? {
         Checked::Refused(refusal) => Ok(Ruling::Refuse(refusal)),
         Checked::Passed(read) => rule_by_room(alloc, view, operation, purpose, read),
     }
@@ -65,10 +63,7 @@ pub fn refusal_before_digests(
     ensures undigested { IfOk result (RefusesUndigested config.now view.now operation.now) }
     ensures unnamed { IfOk result (RefusesUnnamed config.now view.now operation.now) }
 {
-    if let Some(refusal) = access_rule(config, view, operation) {
-        return Ok(Some(refusal));
-    }
-    match check_content(alloc, config, view, operation, purpose)? {
+    match check(alloc, config, view, operation, purpose)? {
         Checked::Refused(refusal) => Ok(Some(refusal)),
         Checked::Passed(read) => {
             drop(read);
@@ -77,12 +72,37 @@ pub fn refusal_before_digests(
     }
 }
 
-/// What the rules on a content say.
+/// What the rules before the last one say.
 #[derive(Drop)]
 pub(crate) enum Checked {
     Refused(Refusal),
-    /// None applies, and this was read of the content.
+    /// None of them applies, and this was read of the content.
     Passed(ReadContent),
+}
+
+// Rules 5 to 14.
+fn check(
+    alloc: Global,
+    config: &Config,
+    view: &View,
+    operation: &Operation<'_>,
+    purpose: Option<Purpose<'_>>,
+) -> Result<Checked, AllocError>
+    requires { option_map kind_for purpose ≡ kind_of operation.now }
+    ensures { IfOk result
+        (IsChecked (refusal_before_room config.now (in_view view.now) operation.now) operation.now) }
+{
+    if let Some(refusal) = access_rule(config, view, operation) {
+        return Ok(Checked::Refused(refusal));
+    }
+    if has_content(operation.target.method) {
+        check_content(alloc, config, view, operation, purpose)
+    } else {
+        Ok(Checked::Passed(ReadContent {
+            metadata: None,
+            digests: None,
+        }))
+    }
 }
 
 // Rules 5 to 7: who asks, for what, and of which state of it.
@@ -112,42 +132,6 @@ fn reads_alone(target: &Target) -> bool
     }
 }
 
-// Rules 8 to 14, for the methods that have a content. Nothing is hashed or read before the rules that
-// don't need it have passed.
-fn check_content(
-    alloc: Global,
-    config: &Config,
-    view: &View,
-    operation: &Operation<'_>,
-    purpose: Option<Purpose<'_>>,
-) -> Result<Checked, AllocError>
-    requires { option_map kind_for purpose ≡ kind_of operation.now }
-    ensures { IfOk result (IsChecked config.now view.now operation.now) }
-{
-    if !has_content(operation.target.method) {
-        return Ok(Checked::Passed(ReadContent {
-            metadata: None,
-            digests: None,
-        }));
-    }
-    if let Some(refusal) = fields_rule(operation, purpose) {
-        return Ok(Checked::Refused(refusal));
-    }
-    let digests = digests_if_promised(operation);
-    let mismatch = digest_rule(operation, digests);
-    if let Some(refusal) = mismatch {
-        return Ok(Checked::Refused(refusal));
-    }
-    let misfit = size_rule(config, view, operation, purpose);
-    let metadata = metadata_of(alloc, operation, purpose)?;
-    let fault = document_rule(alloc, view, operation, purpose, metadata.is_some())?;
-    if let Some(refusal) = fault.or(misfit) {
-        drop(metadata);
-        return Ok(Checked::Refused(refusal));
-    }
-    Ok(Checked::Passed(ReadContent { metadata, digests }))
-}
-
 fn has_content(method: Method) -> bool
     ensures { result ≡ has_content method }
 {
@@ -157,47 +141,70 @@ fn has_content(method: Method) -> bool
     }
 }
 
-// The metadata that the content is, read for this purpose alone.
-fn metadata_of(
+// Rules 8 to 14, of a content. Nothing is hashed or read before the rules that don't need it have passed; no
+// content has both a document and a size to be ruled on.
+fn check_content(
     alloc: Global,
+    config: &Config,
+    view: &View,
     operation: &Operation<'_>,
     purpose: Option<Purpose<'_>>,
-) -> Result<Option<Metadata>, AllocError>
+) -> Result<Checked, AllocError>
     requires { option_map kind_for purpose ≡ kind_of operation.now }
-    ensures { IfOk result (λ metadata. kind_of operation.now ≡ Some of.Metadata
-        → metadata ≡ metadata_read operation.now.content) }
+    ensures { IfOk result
+        (IsChecked (content_by config.now (in_view view.now) operation.now) operation.now) }
 {
-    let Some(Purpose::Metadata) = purpose else {
-        return Ok(None);
-    };
-    match read_metadata(alloc, operation.content.as_slice()) {
-        Ok(metadata) => Ok(Some(metadata)),
-        Err(DocFault::Malformed) => Ok(None),
-        Err(DocFault::Memory) => Err(AllocError),
+    if let Some(refusal) = fields_rule(operation, purpose) {
+        return Ok(Checked::Refused(refusal));
     }
+    let digests = digests_if_promised(operation);
+    let mismatch = digest_rule(operation, digests);
+    if let Some(refusal) = mismatch {
+        return Ok(Checked::Refused(refusal));
+    }
+    if let Some(refusal) = size_rule(config, view, operation, purpose) {
+        return Ok(Checked::Refused(refusal));
+    }
+    check_document(alloc, view, operation, purpose, digests)
 }
 
-// Rule 13: the document, where it is known whether metadata can be read. The references in it are those that the
-// view has, whatever the configuration.
+// Rule 13: the document, where the digests of the content are these as far as they were needed. The references in
+// it are those that the view has, whatever the configuration.
 #[tactic(auto, unfolding(dep_decisions::specs::Rules::document_rule))]
-fn document_rule(
+fn check_document(
     alloc: Global,
     view: &View,
-    _operation: &Operation<'_>,
+    operation: &Operation<'_>,
     purpose: Option<Purpose<'_>>,
-    is_readable: bool,
-) -> Result<Option<Refusal>, AllocError>
-    requires purpose { option_map kind_for purpose ≡ kind_of _operation.now }
-    requires readable { kind_of _operation.now ≡ Some of.Metadata
-        → is_readable ≡ is_some (metadata_read _operation.now.content) }
+    digests: Option<Digests>,
+) -> Result<Checked, AllocError>
+    requires purpose { option_map kind_for purpose ≡ kind_of operation.now }
+    requires digests { IfSome digests (λ d. d ≡ digests_of operation.now.content) }
     ensures { (config : Config) → IfOk result
-        (λ refusal. refusal ≡ document_rule config (in_view view.now) _operation.now) }
+        (IsChecked (document_rule config (in_view view.now) operation.now) operation.now) }
 {
     match purpose {
-        Some(Purpose::Metadata) if is_readable => Ok(None),
-        Some(Purpose::Metadata) => Ok(Some(Refusal::ContentMalformed)),
-        Some(Purpose::References) => { references_rule(alloc, view, view.references.as_ref()) }
-        _ => Ok(None),
+        Some(Purpose::Metadata) => match read_metadata(alloc, operation.content.as_slice()) {
+            Ok(metadata) => Ok(Checked::Passed(ReadContent {
+                metadata: Some(metadata),
+                digests,
+            })),
+            Err(DocFault::Malformed) => Ok(Checked::Refused(Refusal::ContentMalformed)),
+            Err(DocFault::Memory) => Err(AllocError),
+        },
+        Some(Purpose::References) => {
+            match references_rule(alloc, view, view.references.as_ref())? {
+                Some(refusal) => Ok(Checked::Refused(refusal)),
+                None => Ok(Checked::Passed(ReadContent {
+                    metadata: None,
+                    digests,
+                })),
+            }
+        }
+        _ => Ok(Checked::Passed(ReadContent {
+            metadata: None,
+            digests,
+        })),
     }
 }
 
