@@ -68,7 +68,7 @@ list_between {old} {opened} {between} {new} {ds} b m e =
     reported_as (ap (λ ts. Token.begin_array ∷ ts) (sym (items_closed ds))) all
 
 -- a member, by its name and its value
-named : {old opened new : Draft} {name : List ℕ} {d : Data} → Adds old opened (Token.key name ∷ []) → Adds opened new (value_tokens d) → AddsMembers old new ((name, d) ∷ [])
+pub named : {old opened new : Draft} {name : List ℕ} {d : Data} → Adds old opened (Token.key name ∷ []) → Adds opened new (value_tokens d) → AddsMembers old new ((name, d) ∷ [])
 named {old} {opened} {new} {name} {d} k v =
     record { is = reported_as (ap (λ ts. Token.key name ∷ ts) (sym (append-nil (value_tokens d)))) (then k v) }
 

@@ -1,7 +1,8 @@
 //! A document of JSON that is being written.
 ghost use Rattle.std.specs.Prelude.{◌≡◌, ◌∷◌, ◌++◌, [], ℕ, List, IfOk, decimal, false};
-ghost use Rattle.json.specs.Token.{begin_object, end_object, begin_array, end_array, key};
-ghost use Rattle.json.specs.Print.{print};
+ghost use Rattle.json.specs.Token.{begin_object, end_object};
+ghost use Rattle.json.specs.Reads.{token_of};
+ghost use Rattle.json.specs.Print.{print, IsPrintable};
 ghost use Rattle.serde_json.specs.Data.{boolean};
 ghost use Rattle.dep_moment.specs.Civil.{rfc3339_text};
 ghost use Rattle.dep_docs_out.specs.Made.{MakesText};
@@ -11,7 +12,7 @@ ghost use Rattle.dep_docs_out.specs.Json.{Adds, AddsItems, AddsMember, nothing};
 use crate::spelled_moment::SpelledMoment;
 use dep_moment::Moment;
 use itoa::Buffer;
-use json::Writer;
+use json::{Token, Writer};
 use std::alloc::{AllocError, Global};
 use std::marker::Model;
 
@@ -51,50 +52,23 @@ impl Document {
             has_failed: false,
             last: None,
         };
-        document.begin_object();
+        document.token(Token::BeginObject);
         Ok(document)
     }
 
-    /// Begins an object.
-    pub fn begin_object(&mut self)
-        ensures { Adds self.old self.new (begin_object ∷ []) }
+    /// Adds a token.
+    pub fn token(&mut self, token: Token<'_>)
+        requires { IsPrintable (token_of token) }
+        ensures { Adds self.old self.new (token_of token.entry ∷ []) }
     {
-        self.has_failed |= self.out.begin_object().is_err();
-    }
-
-    /// Ends an object.
-    pub fn end_object(&mut self)
-        ensures { Adds self.old self.new (end_object ∷ []) }
-    {
-        self.has_failed |= self.out.end_object().is_err();
-    }
-
-    /// Begins a list.
-    pub fn begin_list(&mut self)
-        ensures { Adds self.old self.new (begin_array ∷ []) }
-    {
-        self.has_failed |= self.out.begin_array().is_err();
-    }
-
-    /// Ends a list.
-    pub fn end_list(&mut self)
-        ensures { Adds self.old self.new (end_array ∷ []) }
-    {
-        self.has_failed |= self.out.end_array().is_err();
-    }
-
-    /// Adds the name of a member, whose value is to follow.
-    pub fn name(&mut self, name: &str)
-        ensures { Adds self.old self.new (key name.now ∷ []) }
-    {
-        self.has_failed |= self.out.key(name).is_err();
+        self.has_failed |= self.out.token(token).is_err();
     }
 
     /// Adds a text, as an item of a list or as the value of a member.
     pub fn text_item(&mut self, text: &str)
         ensures { AddsItems self.old self.new (spec.text text.now ∷ []) }
     {
-        self.has_failed |= self.out.string(text).is_err();
+        self.token(Token::String(text));
     }
 
     /// Adds a whole number, as an item of a list or as the value of a member.
@@ -108,8 +82,8 @@ impl Document {
     pub fn text(&mut self, name: &str, text: &str)
         ensures { AddsMember self.old self.new name.now (spec.text text.now) }
     {
-        self.name(name);
-        self.text_item(text);
+        self.token(Token::Key(name));
+        self.token(Token::String(text));
     }
 
     /// Adds a member that is a text, if the text could be made.
@@ -144,7 +118,7 @@ impl Document {
     pub fn whole_number(&mut self, name: &str, number: u64)
         ensures { AddsMember self.old self.new name.now (spec.whole_number number) }
     {
-        self.name(name);
+        self.token(Token::Key(name));
         self.whole_number_item(number);
     }
 
@@ -152,18 +126,18 @@ impl Document {
     pub fn flag(&mut self, name: &str, flag: bool)
         ensures { AddsMember self.old self.new name.now (boolean flag) }
     {
-        self.name(name);
-        self.has_failed |= self.out.boolean(flag).is_err();
+        self.token(Token::Key(name));
+        self.token(Token::Bool(flag));
     }
 
     /// Adds a member that is a list of one text.
     pub fn only(&mut self, name: &str, text: &str)
         ensures { AddsMember self.old self.new name.now (spec.only text.now) }
     {
-        self.name(name);
-        self.begin_list();
+        self.token(Token::Key(name));
+        self.token(Token::BeginArray);
         self.text_item(text);
-        self.end_list();
+        self.token(Token::EndArray);
     }
 
     /// Ends the object that was begun first, and returns the bytes of the document, if all of it was written.
@@ -171,7 +145,7 @@ impl Document {
         ensures { IfOk result (λ bytes. (self.has_failed ≡ false)
             × (bytes.items ≡ print (self.tokens ++ end_object ∷ []))) }
     {
-        self.end_object();
+        self.token(Token::EndObject);
         if self.has_failed {
             return Err(AllocError);
         }

@@ -16,46 +16,20 @@ ghost use Rattle.dep_docs_out.specs.ExampleDocuments.{example_config, example_em
 ghost use Rattle.dep_types.specs.Rows.{object_view};
 ghost use Rattle.dep_types.specs.declared.refusal.Refusal.TheVariants.{DigestMismatch};
 
-/// The service document of the example.
-pub fn service_document_of_example()
-    ensures { service_document example_config ≡ service_text }
-{}
-
-/// The error document of a content that does not match its digest.
-pub fn error_document_of_example()
-    ensures { error_document DigestMismatch 1523836800 ≡ error_text }
-{}
-
-/// The status document of an object that has one file.
-pub fn status_document_of_example()
-    ensures { status_document example_config (object_view 1 example_object) ≡ status_text }
-{}
-
-/// The status document of an object in progress, with a file that was posted on behalf of another and one that came
-/// by reference.
-pub fn status_document_in_progress()
-    ensures { status_document example_config (object_view 7 example_unfinished)
+/// The documents of the example are these texts. Its objects are one that has a file, one in progress, with a file that
+/// was posted on behalf of another and one that came by reference, and one without files; its metadata are three
+/// titles, and one title in a bag. Of its upload the second segment of three is still to come, and its error is a
+/// content that does not match its digest.
+pub fn documents_of_the_example()
+    ensures service { service_document example_config ≡ service_text }
+    ensures error { error_document DigestMismatch 1523836800 ≡ error_text }
+    ensures status { status_document example_config (object_view 1 example_object) ≡ status_text }
+    ensures in_progress { status_document example_config (object_view 7 example_unfinished)
         ≡ unfinished_text }
-{}
-
-/// The status document of an object without files.
-pub fn status_document_without_files()
-    ensures { status_document example_config (object_view 1 example_empty) ≡ empty_text }
-{}
-
-/// The metadata document of an object that has three titles.
-pub fn metadata_document_of_example()
-    ensures { metadata_document example_config 1 example_titles ≡ metadata_text }
-{}
-
-/// The metadata document of an object that has one title, in its bag.
-pub fn bag_metadata_document_of_example()
-    ensures { bag_metadata_document example_title ≡ bag_metadata_text }
-{}
-
-/// The document of an upload whose second segment of three is still to come.
-pub fn upload_document_of_example()
-    ensures { upload_document example_config example_upload (1 ∷ 3 ∷ []) ≡ upload_text }
+    ensures empty { status_document example_config (object_view 1 example_empty) ≡ empty_text }
+    ensures titles { metadata_document example_config 1 example_titles ≡ metadata_text }
+    ensures bag { bag_metadata_document example_title ≡ bag_metadata_text }
+    ensures upload { upload_document example_config example_upload (1 ∷ 3 ∷ []) ≡ upload_text }
 {}
 
 /// The service document is read back as the value that it spells.

@@ -1,11 +1,12 @@
 //! The metadata document.
 ghost use Rattle.dep_docs_out.specs.Made.{Makes};
-ghost use Rattle.dep_docs_out.specs.Documents.{bag_metadata_document, metadata_document, metadata_url, placed_metadata, texts_data, texts_members, unplaced_metadata};
+ghost use Rattle.dep_docs_out.specs.Documents.{bag_metadata_document, metadata_document, texts_data, texts_members};
 ghost use Rattle.dep_docs_out.specs.Json.{AddsMember, AddsMembers, text_list};
 
 use crate::document::{CONTEXT, Document};
-use crate::urls::metadata_url;
+use crate::urls::part_url;
 use dep_types::{Config, Metadata, MetadataEntry, Text};
+use json::Token;
 use std::alloc::{AllocError, Global};
 
 /// Returns the metadata document of SWORD 3.0: the metadata of the object with this number. A name that has
@@ -19,25 +20,11 @@ pub fn metadata_doc(
     ensures { Makes result (metadata_document config.now object metadata.now) }
 {
     let mut document = Document::begun(alloc)?;
-    add_placed(&mut document, alloc, config, object, metadata);
-    document.ended()
-}
-
-// The metadata of the object with this number, under its Metadata-URL.
-fn add_placed(
-    document: &mut Document,
-    alloc: Global,
-    config: &Config,
-    object: u64,
-    metadata: &Metadata,
-)
-    ensures { AddsMembers document.old document.new
-        (placed_metadata (metadata_url config.now object) metadata.now) }
-{
     document.text("@context", CONTEXT);
-    document.made_text("@id", metadata_url(alloc, config, object));
+    document.made_text("@id", part_url(alloc, config, object, "/metadata"));
     document.text("@type", "Metadata");
-    add_metadata(document, metadata);
+    add_metadata(&mut document, metadata);
+    document.ended()
 }
 
 /// Returns the metadata document of an object as it stands in the object's bag, where it has no URL.
@@ -45,16 +32,10 @@ pub fn bag_metadata_doc(alloc: Global, metadata: &Metadata) -> Result<Vec<u8>, A
     ensures { Makes result (bag_metadata_document metadata.now) }
 {
     let mut document = Document::begun(alloc)?;
-    add_unplaced(&mut document, metadata);
-    document.ended()
-}
-
-fn add_unplaced(document: &mut Document, metadata: &Metadata)
-    ensures { AddsMembers document.old document.new (unplaced_metadata metadata.now) }
-{
     document.text("@context", CONTEXT);
     document.text("@type", "Metadata");
-    add_metadata(document, metadata);
+    add_metadata(&mut document, metadata);
+    document.ended()
 }
 
 fn add_metadata(document: &mut Document, metadata: &Metadata)
@@ -77,10 +58,10 @@ fn add_entry(document: &mut Document, entry: &MetadataEntry)
 fn add_texts(document: &mut Document, name: &str, texts: &[Text])
     ensures { AddsMember document.old document.new name.now (text_list texts.now) }
 {
-    document.name(name);
-    document.begin_list();
+    document.token(Token::Key(name));
+    document.token(Token::BeginArray);
     for text in texts {
         document.text_item(text.as_str());
     }
-    document.end_list();
+    document.token(Token::EndArray);
 }

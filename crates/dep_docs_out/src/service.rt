@@ -1,12 +1,13 @@
 //! The service document.
 ghost use Rattle.std.specs.Prelude.{codes};
 ghost use Rattle.dep_docs_out.specs.Made.{Makes};
-ghost use Rattle.dep_docs_out.specs.Documents.{digests_data, service_document, service_limits, service_offers, service_places, url};
-ghost use Rattle.dep_docs_out.specs.Json.{AddsMember, AddsMembers};
+ghost use Rattle.dep_docs_out.specs.Documents.{service_document, service_limits, service_offers, service_places, url};
+ghost use Rattle.dep_docs_out.specs.Json.{AddsMembers};
 
 use crate::document::{CONTEXT, Document};
 use crate::urls::url;
 use dep_types::{BINARY_PACKAGING, Config, METADATA_FORMAT};
+use json::Token;
 use std::alloc::{AllocError, Global};
 
 /// Returns the service document of SWORD 3.0: what the server offers, its limits, and where it takes
@@ -36,7 +37,8 @@ fn add_offers(document: &mut Document, alloc: Global, config: &Config)
     document.only("acceptPackaging", BINARY_PACKAGING);
 }
 
-// What it is called, and its limits.
+// What it is called, its limits, and the digests of a content that a request may promise, by their names in a Digest
+// field (RFC 5843).
 #[tactic(auto, unfolding(crate::specs::Documents::service_limits))]
 fn add_limits(document: &mut Document, config: &Config)
     ensures { AddsMembers document.old document.new (service_limits config.now) }
@@ -44,21 +46,14 @@ fn add_limits(document: &mut Document, config: &Config)
     document.flag("byReferenceDeposit", true);
     document.text("dc:title", config.title.as_str());
     document.text("dcterms:abstract", config.abstract_text.as_str());
-    add_digests(document);
+    document.token(Token::Key("digest"));
+    document.token(Token::BeginArray);
+    document.text_item("SHA-256");
+    document.text_item("SHA-512");
+    document.token(Token::EndArray);
     document.whole_number("maxAssembledSize", config.max_assembled);
     document.whole_number("maxSegments", config.max_segments);
     document.whole_number("maxUploadSize", config.max_upload);
-}
-
-// The digests of a content that a request may promise, by their names in a Digest field (RFC 5843).
-fn add_digests(document: &mut Document)
-    ensures { AddsMember document.old document.new (codes "digest") digests_data }
-{
-    document.name("digest");
-    document.begin_list();
-    document.text_item("SHA-256");
-    document.text_item("SHA-512");
-    document.end_list();
 }
 
 // Where it takes it.

@@ -26,23 +26,16 @@ impl Model for SpelledMoment {
 }
 
 impl SpelledMoment {
-    // Spells a moment.
-    fn new(moment: Moment) -> SpelledMoment
-        ensures { result ≡ moment }
-    {
-        SpelledMoment {
-            moment,
-            text: moment.rfc3339(),
-        }
-    }
-
     /// Spells a moment behind another, whose text is taken over where it is the same moment.
     pub(crate) fn behind(last: Option<SpelledMoment>, moment: Moment) -> SpelledMoment
         ensures { result ≡ moment }
     {
         match last {
             Some(last) if last.moment == moment => last,
-            _ => SpelledMoment::new(moment),
+            _ => SpelledMoment {
+                moment,
+                text: moment.rfc3339(),
+            },
         }
     }
 

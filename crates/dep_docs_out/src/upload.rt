@@ -1,12 +1,13 @@
 //! The document of an upload.
 ghost use Rattle.std.specs.Prelude.{◌≡◌, true, IfOk, codes, option_map};
-ghost use Rattle.dep_docs_out.specs.Documents.{expecting, segments_data, upload_members, upload_url};
+ghost use Rattle.dep_docs_out.specs.Documents.{expecting, segments_data};
 ghost use Rattle.dep_docs_out.specs.Segments.{are_segments, ordered_upload_document};
-ghost use Rattle.dep_docs_out.specs.Json.{AddsMember, AddsMembers, number_list};
+ghost use Rattle.dep_docs_out.specs.Json.{AddsMember, number_list};
 
 use crate::document::{CONTEXT, Document};
 use crate::urls::upload_url;
 use dep_types::{Config, UploadRow};
+use json::Token;
 use std::alloc::{AllocError, Global};
 
 /// Returns the document of a staged upload (SWORD 3.0, segmented upload): which of its segments were
@@ -25,7 +26,10 @@ pub fn upload_doc(
         return Ok(None);
     }
     let mut document = Document::begun(alloc)?;
-    add_upload(&mut document, alloc, config, upload, received);
+    document.text("@context", CONTEXT);
+    document.made_text("@id", upload_url(alloc, config, upload.upload));
+    document.text("@type", "Temporary");
+    add_segments(&mut document, upload, received);
     Ok(Some(document.ended()?))
 }
 
@@ -43,37 +47,19 @@ fn are_segments(numbers: &[u64]) -> bool
     true
 }
 
-// The upload, under its Temporary-URL.
-fn add_upload(
-    document: &mut Document,
-    alloc: Global,
-    config: &Config,
-    upload: &UploadRow,
-    received: &[u64],
-)
-    requires { are_segments received.now ≡ true }
-    ensures { AddsMembers document.old document.new
-        (upload_members (upload_url config.now upload.now.upload) upload.now received.now) }
-{
-    document.text("@context", CONTEXT);
-    document.made_text("@id", upload_url(alloc, config, upload.upload));
-    document.text("@type", "Temporary");
-    add_segments(document, upload, received);
-}
-
 // Which segments it waits for, and which it has.
 fn add_segments(document: &mut Document, upload: &UploadRow, received: &[u64])
     requires { are_segments received.now ≡ true }
     ensures { AddsMember document.old document.new (codes "segments")
         (segments_data upload.now received.now) }
 {
-    document.name("segments");
-    document.begin_object();
+    document.token(Token::Key("segments"));
+    document.token(Token::BeginObject);
     add_expecting(document, upload.count, received);
     add_received(document, received);
     document.whole_number("segment_size", upload.segment_size);
     document.whole_number("size", upload.size);
-    document.end_object();
+    document.token(Token::EndObject);
 }
 
 fn add_expecting(document: &mut Document, count: u64, received: &[u64])
@@ -81,8 +67,8 @@ fn add_expecting(document: &mut Document, count: u64, received: &[u64])
     ensures { AddsMember document.old document.new (codes "expecting")
         (number_list (expecting count received.now)) }
 {
-    document.name("expecting");
-    document.begin_list();
+    document.token(Token::Key("expecting"));
+    document.token(Token::BeginArray);
     let mut left = received;
     for before in 0..count {
         let number = before + 1;
@@ -91,17 +77,17 @@ fn add_expecting(document: &mut Document, count: u64, received: &[u64])
             _ => document.whole_number_item(number),
         }
     }
-    document.end_list();
+    document.token(Token::EndArray);
 }
 
 fn add_received(document: &mut Document, received: &[u64])
     ensures { AddsMember document.old document.new (codes "received")
         (number_list received.now) }
 {
-    document.name("received");
-    document.begin_list();
+    document.token(Token::Key("received"));
+    document.token(Token::BeginArray);
     for number in received {
         document.whole_number_item(*number);
     }
-    document.end_list();
+    document.token(Token::EndArray);
 }

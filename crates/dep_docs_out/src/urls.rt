@@ -1,6 +1,7 @@
 //! URLs of the server.
+ghost use Rattle.std.specs.Prelude.{◌++◌, decimal, string_bytes};
 ghost use Rattle.dep_docs_out.specs.Made.{MakesText};
-ghost use Rattle.dep_docs_out.specs.Documents.{file_url, files_url, metadata_url, object_url, upload_url, url};
+ghost use Rattle.dep_docs_out.specs.Documents.{file_url, object_url, upload_url, url};
 
 use dep_types::Config;
 use itoa::Buffer;
@@ -9,47 +10,48 @@ use std::alloc::{AllocError, Global};
 /// So many octets has the longest path behind the base: that of a file, where each number has 20 digits.
 const LONGEST_PATH: usize = 56;
 
+// Returns the text with another behind it.
+fn joined(mut text: String, more: &str) -> Result<String, AllocError>
+    ensures { MakesText result (string_bytes text ++ more.now) }
+{
+    text.push_str(more)?;
+    Ok(text)
+}
+
+/// Returns the text with the digits of a number behind it.
+pub(crate) fn numbered(text: String, number: u64) -> Result<String, AllocError>
+    ensures { MakesText result (string_bytes text ++ decimal number) }
+{
+    let mut digits = Buffer::new();
+    joined(text, digits.format(number))
+}
+
 /// Returns the URL with this path: the base with the path behind it. It has room for all that a path can go on with.
 pub(crate) fn url(alloc: Global, config: &Config, path: &str) -> Result<String, AllocError>
     ensures { MakesText result (url config.now path.now) }
 {
     let base = config.base.as_str();
-    let mut text = String::with_capacity(alloc, base.len().saturating_add(LONGEST_PATH))?;
-    text.push_str(base)?;
-    text.push_str(path)?;
-    Ok(text)
+    let text = String::with_capacity(alloc, base.len().saturating_add(LONGEST_PATH))?;
+    joined(joined(text, base)?, path)
 }
 
 /// Returns the Object-URL of the object with this number.
 pub fn object_url(alloc: Global, config: &Config, object: u64) -> Result<String, AllocError>
     ensures { MakesText result (object_url config.now object) }
 {
-    let mut digits = Buffer::new();
-    let mut text = url(alloc, config, "/objects/")?;
-    text.push_str(digits.format(object))?;
-    Ok(text)
+    numbered(url(alloc, config, "/objects/")?, object)
 }
 
-/// Its Metadata-URL.
-pub(crate) fn metadata_url(
+/// The URL of a part of an object, by its path behind the Object-URL.
+pub(crate) fn part_url(
     alloc: Global,
     config: &Config,
     object: u64,
+    path: &str,
 ) -> Result<String, AllocError>
-    ensures { MakesText result (metadata_url config.now object) }
+    ensures { MakesText result (object_url config.now object ++ path.now) }
 {
-    let mut text = object_url(alloc, config, object)?;
-    text.push_str("/metadata")?;
-    Ok(text)
-}
-
-/// Its FileSet-URL.
-pub(crate) fn files_url(alloc: Global, config: &Config, object: u64) -> Result<String, AllocError>
-    ensures { MakesText result (files_url config.now object) }
-{
-    let mut text = object_url(alloc, config, object)?;
-    text.push_str("/files")?;
-    Ok(text)
+    joined(object_url(alloc, config, object)?, path)
 }
 
 /// The File-URL of the file with this number.
@@ -61,19 +63,12 @@ pub(crate) fn file_url(
 ) -> Result<String, AllocError>
     ensures { MakesText result (file_url config.now object file) }
 {
-    let mut digits = Buffer::new();
-    let mut text = object_url(alloc, config, object)?;
-    text.push_str("/files/")?;
-    text.push_str(digits.format(file))?;
-    Ok(text)
+    numbered(part_url(alloc, config, object, "/files/")?, file)
 }
 
 /// Returns the Temporary-URL of the upload with this number.
 pub fn upload_url(alloc: Global, config: &Config, upload: u64) -> Result<String, AllocError>
     ensures { MakesText result (upload_url config.now upload) }
 {
-    let mut digits = Buffer::new();
-    let mut text = url(alloc, config, "/staging/")?;
-    text.push_str(digits.format(upload))?;
-    Ok(text)
+    numbered(url(alloc, config, "/staging/")?, upload)
 }

@@ -12,4 +12,4 @@ loop-text-preserved c =
 pub returns : goal.returns
 returns c =
     let texts = items_all (λ s. text s) c.args.texts.now c.loop-text.text-index (omega arith) c.loop-text.invariant in
-    list_member c.name.ensures c.begin_list.ensures texts c.end_list.ensures
+    list_member c.token.ensures c.token-2.ensures texts c.token-3.ensures

@@ -5,7 +5,7 @@ use Rattle.dep_docs_out.proofs.status.add_actions.Goals as goal
 pub returns : goal.returns
 unfolding actions_data
 returns c =
-    object_member c.name.ensures c.begin_object.ensures
+    object_member c.token.ensures c.token-2.ensures
     (c.flag.ensures
     ⨾ c.flag-2.ensures
     ⨾ c.flag-3.ensures
@@ -15,4 +15,4 @@ returns c =
     ⨾ c.flag-7.ensures
     ⨾ c.flag-8.ensures
     ⨾ c.flag-9.ensures)
-    c.end_object.ensures
+    c.token-3.ensures

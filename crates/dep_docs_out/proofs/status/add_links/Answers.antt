@@ -14,7 +14,7 @@ pub returns : goal.returns
 unfolding links_data
 returns c =
     let link = link_data c.args.config.now c.args.view.now.object.object in
-    let written : AddsItems c.begin_list.new.self c.loop-file.document (map link c.as_slice-file-items.result.now) =
+    let written : AddsItems c.token-2.new.self c.loop-file.document (map link c.as_slice-file-items.result.now) =
     items_all link c.as_slice-file-items.result.now c.loop-file.file-index (omega arith) c.loop-file.invariant in
     let links = rw c.as_slice-file-items.ensures at written in
-    list_member c.name.ensures c.begin_list.ensures links c.end_list.ensures
+    list_member c.token.ensures c.token-2.ensures links c.token-3.ensures

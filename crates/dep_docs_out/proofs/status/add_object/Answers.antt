@@ -6,7 +6,7 @@ pub returns : goal.returns
 unfolding object_members
 returns c =
     let place = c.made_text.ensures (object_url c.args.config.now c.args.object.now.object) c.object_url.ensures in
-    let files = c.add_part.ensures (files_url c.args.config.now c.args.object.now.object) c.files_url-files.ensures in
+    let files = c.add_part.ensures (files_url c.args.config.now c.args.object.now.object) c.part_url-files.ensures in
     c.text.ensures
     ⨾ place
     ⨾ c.text-2.ensures

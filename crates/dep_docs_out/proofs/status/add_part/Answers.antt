@@ -5,4 +5,4 @@ use Rattle.dep_docs_out.proofs.status.add_part.Goals as goal
 pub returns : goal.returns
 unfolding part_data
 returns c = λ bytes made.
-    object_member c.name.ensures c.begin_object.ensures (c.made_text.ensures bytes made ⨾ c.decimal.ensures) c.end_object.ensures
+    object_member c.token.ensures c.token-2.ensures (c.made_text.ensures bytes made ⨾ c.decimal.ensures) c.token-3.ensures

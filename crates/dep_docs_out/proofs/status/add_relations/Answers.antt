@@ -6,4 +6,4 @@ pub returns : goal.returns
 unfolding relations_data
 returns c =
     let relation = rw c.deposit_relation.ensures at c.text_item.ensures in
-    list_member c.name.ensures c.begin_list.ensures (more_items relation c.text_item-2.ensures) c.end_list.ensures
+    list_member c.token.ensures c.token-2.ensures (more_items relation c.text_item-2.ensures) c.token-3.ensures

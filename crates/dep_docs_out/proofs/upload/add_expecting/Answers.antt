@@ -30,7 +30,7 @@ loop-before-preserved c =
           let here : IsLeft n received (w.in-Some.first.now ∷ w.in-Some.rest.now) = rw w.in-Some.ensures.cases.0 at held.left in
           rw (w.left-is, w.document-is) (record {
             left = received_next _ _ w.if-first-number.true here;
-            written = subst (λ ks. AddsItems c.begin_list.new.self c.loop-before.document (map (λ k. whole_number k) ks)) (sym (expecting_same _ _ w.if-first-number.true here)) held.written;
+            written = subst (λ ks. AddsItems c.token-2.new.self c.loop-before.document (map (λ k. whole_number k) ks)) (sym (expecting_same _ _ w.if-first-number.true here)) held.written;
           })
       | in_default w ↦
           let other : IsNotFirst (n + 1) left =
@@ -47,5 +47,5 @@ loop-before-preserved c =
 pub returns : goal.returns
 returns c =
     let all : c.loop-before.before ≡ c.args.count = omega arith in
-    let numbers = subst (λ n. AddsItems c.begin_list.new.self c.loop-before.document (map (λ k. whole_number k) (expecting n c.args.received.now))) all c.loop-before.invariant.written in
-    list_member c.name.ensures c.begin_list.ensures numbers c.end_list.ensures
+    let numbers = subst (λ n. AddsItems c.token-2.new.self c.loop-before.document (map (λ k. whole_number k) (expecting n c.args.received.now))) all c.loop-before.invariant.written in
+    list_member c.token.ensures c.token-2.ensures numbers c.token-3.ensures

@@ -11,4 +11,4 @@ loop-number-preserved c =
 pub returns : goal.returns
 returns c =
     let numbers = items_all (λ n. whole_number n) c.args.received.now c.loop-number.number-index (omega arith) c.loop-number.invariant in
-    list_member c.name.ensures c.begin_list.ensures numbers c.end_list.ensures
+    list_member c.token.ensures c.token-2.ensures numbers c.token-3.ensures
