@@ -1,5 +1,5 @@
 -- Rows that are read one at a time, by a query that only shows, whose bytes are hashed.
-use Rattle.std.proofs.Common.{◌≡◌, ◌++◌, ◌+◌, ℕ, length, length-append, ap, ◌∙◌, List, [], ◌∷◌, Option, Some, None, Result, Ok, Err, IfErr, OnErr, inl, subst, sym}
+use Rattle.std.proofs.Common.{◌≡◌, ◌++◌, ◌+◌, ◌-◌, ◌^◌, ◌≤◌, ℕ, refl, length, length-append, ap, ◌∙◌, List, [], ◌∷◌, Option, Some, None, Result, Ok, Err, IfErr, OnErr, inl, subst, sym}
 use Rattle.std.specs.Borrow.{Bor}
 use Rattle.dep_fixity.specs.Fixity.{Holds, digests_of}
 use Rattle.dep_fixity.specs.declared.hasher.Digests.{Digests}
@@ -14,17 +14,23 @@ use Rattle.sqlite.specs.declared.error.Error.{Error}
 use Rattle.sqlite.specs.declared.rows.stream.Rows.{Rows}
 use Rattle.sqlite_trees.specs.declared.store.Store.{Ghosts}
 use Rattle.dep_files.specs.Sent.{blob_of, joined}
-use Rattle.dep_files.specs.Clauses.{OnlyReads, OnlyShows, StaysOver, ReportsSeen, ReadsOver, FailsOver}
+use Rattle.dep_files.specs.Clauses.{OnlyReads, OnlyShows, StaysOver, ReportsSeen, ReadsOver, FailsOver, FindsOver}
 use Rattle.dep_files.proofs.NextRow.{clean_before, refused_stays, stays_on, unchanged_on}
 use Rattle.dep_files.proofs.SendingLemmas.{begins_from, fails_from, joined_push}
 use Rattle.dep_types.specs.declared.store_fault.StoreFault.{StoreFault}
 use Rattle.dep_types.specs.declared.store_fault.StoreFault.TheVariants.{Store}
 use Rattle.dep_tables.specs.Faults.{fault_for}
-use Rattle.dep_tables.specs.Rows.{IsBytesValue}
+use Rattle.dep_tables.specs.Rows.{IsBytesValue, owner_values}
+use Rattle.dep_tables.specs.Tables.{IsKnown}
+use Rattle.dep_tables.specs.Texts.{blocks_of_text}
+use Rattle.dep_tables.specs.declared.owner.BlockOwner.{BlockOwner}
+use Rattle.dep_tables.proofs.Results.{if_then, if_err}
 use Rattle.sqlite.proofs.Callers.{given_begin}
-use Rattle.dep_files.specs.Causes.{FailsToGive}
-use Rattle.dep_files.specs.Causes.FailsToGive.{query_failed, unread}
-use Rattle.dep_files.specs.Fixity.{HashesShown}
+use Rattle.dep_files.specs.Causes.{FailsToGive, FailsToGiveBlocks}
+use Rattle.dep_files.specs.Causes.FailsToGive.{query_failed, unread, uncounted}
+use Rattle.dep_files.specs.Causes.FailsToGiveBlocks.{not_given}
+use Rattle.dep_files.specs.Fixity.{AreDigestsOf, HashesShown}
+use Rattle.dep_files.proofs.KnownTables.{blocks_plain, blocks_in_order}
 use Rattle.dep_files.proofs.ShownFrom.{shown_from}
 
 -- the hasher holds the rows that were given so far
@@ -37,6 +43,17 @@ pub record EndsHashing {S : Type 0} (g : Ghosts S) (sql : List ℕ) (params : Ro
   pub hashes : ReportsSeen (OnlyShows sql) g first new result (HashesShown sql params)
   pub cause : FailsOver (OnlyShows sql) g first new result (FailsToGive sql params None)
   pub reads : ReadsOver g first new result
+
+-- the same of an owner's blocks, over a connection that is given back
+pub owner_hashed : {S : Type 0} {g : Ghosts S} {first now back : Held S} {result : Result Digests StoreFault} (o : BlockOwner)
+    → now ≡ back → EndsHashing g blocks_of_text (owner_values o) first now result → FindsOver IsKnown g first back result (λ t. AreDigestsOf t o) (FailsToGiveBlocks o None)
+owner_hashed {g = g} {first} {now} {result = result} o is ended =
+    subst (λ h. FindsOver IsKnown g first h result (λ t. AreDigestsOf t o) (FailsToGiveBlocks o None)) is (record {
+      ok = λ clean known. if_then result (ended.hashes clean (blocks_plain (state g first) known))
+          (λ digests it. record { rows = it.rows; ordered = blocks_in_order (state g first) o known it.rows it.shown; are = it.are });
+      cause = λ clean known. if_err result (ended.cause clean (blocks_plain (state g first) known)) (λ fault it. not_given it);
+      reads = ended.reads;
+    })
 
 -- no query began
 pub not_begun : {S X : Type 0} (g : Ghosts S) (sql : List ℕ) (params : Row) → OnlyReads sql → (old new : Held S) (result : Result X Error) (error : Error) (fault : StoreFault)
@@ -120,3 +137,14 @@ module _ {S : Type 0} (g : Ghosts S) (old new : Rows S g) (result : Result (Opti
       cause = λ late plain. why_refused sql params (state g first) count hasher (was (earlier late)) late row is fault none;
       reads = record { stays = stays; same = λ late. tt };
     }
+
+-- no more rows can be counted
+pub ends_uncounted : {S : Type 0} (g : Ghosts S) (sql : List ℕ) (params : Row) (first now : Held S) (count : ℕ) (hasher : Hasher) → StaysOver g first now
+    → (HasCleanDisk (state g now) → Hashed g sql params (state g first) now count hasher) → 2 ^ 64 - 1 ≤ count → EndsHashing g sql params first now (Err Store)
+ends_uncounted g sql params first now count hasher kept was full = record {
+  hashes = λ late plain. tt;
+  cause = λ late plain.
+      let x = was late in
+      uncounted x.0 (begins_from sql params (state g first) (state g now) x.0 x.2 (given_begin g sql params now x.0 x.1)) (subst (λ n. 2 ^ 64 - 1 ≤ n) (sym x.4) full) refl;
+  reads = record { stays = kept; same = λ late. tt };
+}

@@ -13,15 +13,21 @@ use Rattle.sqlite.specs.declared.rows.stream.Rows.{Rows}
 use Rattle.sqlite.proofs.Callers.{given_begin}
 use Rattle.sqlite_trees.specs.declared.store.Store.{Ghosts}
 use Rattle.dep_types.specs.Writing.{HasRisen}
-use Rattle.dep_files.specs.Clauses.{OnlyReads, OnlyShows, StaysOver, ReadsOver, FailsOver, GivesOver}
+use Rattle.dep_files.specs.Clauses.{OnlyReads, OnlyShows, StaysOver, ReadsOver, LeavesOver, FailsOver, GivesOver}
 use Rattle.dep_types.specs.declared.store_fault.StoreFault.{StoreFault}
 use Rattle.dep_types.specs.declared.store_fault.StoreFault.TheVariants as store
 use Rattle.dep_tables.specs.Faults.{fault_for}
-use Rattle.dep_tables.specs.Rows.{IsBytesValue}
-use Rattle.dep_files.specs.Causes.{FailsToGive, FailsToSend}
+use Rattle.dep_tables.specs.Rows.{IsBytesValue, owner_values}
+use Rattle.dep_tables.specs.Tables.{IsOurs}
+use Rattle.dep_tables.specs.Texts.{blocks_of_text}
+use Rattle.dep_tables.specs.declared.owner.BlockOwner.{BlockOwner}
+use Rattle.dep_tables.proofs.Leading.{plain_here}
+use Rattle.dep_tables.proofs.Results.{if_err, ok_then}
+use Rattle.dep_files.specs.Causes.{FailsToGive, FailsToGiveBlocks, FailsToSend, FailsToSendBlocks}
+use Rattle.dep_files.specs.Causes.FailsToGiveBlocks.{not_given}
 use Rattle.dep_files.specs.Causes.FailsToGive.{query_failed, too_few, unread, uncounted}
 use Rattle.dep_files.specs.Faults.{BlamesOutlet, IsStoppedBy}
-use Rattle.dep_files.specs.Sent.{blob_of, joined, GivesSized, StopsBetween, SendsSized}
+use Rattle.dep_files.specs.Sent.{blob_of, joined, GivesSized, StopsBetween, SendsBlocksOf, SendsSized}
 use Rattle.dep_types.specs.StoreFaults.{stream_fault_for}
 use Rattle.dep_types.specs.declared.stream_fault.StreamFault.{StreamFault}
 use Rattle.dep_types.specs.declared.stream_fault.StreamFault.TheVariants.{Writer, Store, Memory, NoSuchFile}
@@ -29,7 +35,8 @@ use Rattle.dep_files.proofs.NextRow as row
 use Rattle.dep_files.proofs.NextRow.{begun_stays, refused_stays}
 use Rattle.dep_files.proofs.Stills.{begun_reads}
 use Rattle.dep_files.proofs.ShownFrom.{shown_from}
-use Rattle.dep_files.proofs.FaultsReported.{asked_failed, asked_there, stopped_for}
+use Rattle.dep_files.proofs.FaultsReported.{asked_failed, asked_there, stopped_for, stopped_more}
+use Rattle.dep_files.proofs.OrderedBlocks.{sends_owner, owner_is}
 use Rattle.dep_files.proofs.SendingLemmas.{all_sent, begins_from, cut_sized, fails_from, joined_more, less_left, some_left, stops_sized}
 
 -- what the sending of a query's rows leaves, by what it answers
@@ -40,10 +47,29 @@ pub record EndsSending {S : Type 0} (g : Ghosts S) (sql : List ℕ) (params : Ro
   pub outlet : BlamesOutlet Writer were are result
   pub there : result ≢ Err NoSuchFile
 
--- the same of a connection that is given back
-pub ends_at : {S : Type 0} {g : Ghosts S} {sql : List ℕ} {params : Row} {first now back : Held S} {size : ℕ} {start taken : Option (List ℕ)} {were are : ℕ} {result : Result (Unit {0}) StreamFault}
-    → now ≡ back → EndsSending g sql params first now size start taken were are result → EndsSending g sql params first back size start taken were are result
-ends_at {g = g} {sql} {params} {first} {size = size} {start} {taken} {were} {are} {result} is ends = subst (λ h. EndsSending g sql params first h size start taken were are result) is ends
+-- what the sending of an owner's blocks leaves
+pub record EndsBlocks {S : Type 0} (g : Ghosts S) (o : BlockOwner) (first new : Held S) (size : ℕ) (start taken : Option (List ℕ)) (were are : ℕ) (result : Result (Unit {0}) StreamFault) : Type 0 where
+  pub streams : GivesOver IsOurs g first new start taken (SendsBlocksOf o size result)
+  pub why : FailsOver IsOurs g first new result (FailsToSendBlocks o size)
+  pub leaves : LeavesOver g first new result
+  pub outlet : BlamesOutlet Writer were are result
+  pub there : result ≢ Err NoSuchFile
+
+shows : (s : State) → IsOurs s → OnlyShows blocks_of_text s
+shows s ours = plain_here s blocks_of_text ours owner_is.plain
+
+-- over a connection that is given back
+pub owner_sent : {S : Type 0} {g : Ghosts S} {o : BlockOwner} {first now back : Held S} {size : ℕ} {start taken : Option (List ℕ)} {were are : ℕ} {result : Result (Unit {0}) StreamFault}
+    → now ≡ back → EndsSending g blocks_of_text (owner_values o) first now size start taken were are result → EndsBlocks g o first back size start taken were are result
+owner_sent {g = g} {o} {first} {now} {size = size} {start} {taken} {were} {are} {result} is ended =
+    subst (λ h. EndsBlocks g o first h size start taken were are result) is (record {
+      streams = (ended.streams.0, ended.streams.1, λ clean ours. sends_owner (state g first) o size ended.streams.0 result ours (ended.streams.2 clean (shows (state g first) ours)));
+      why = λ clean ours. if_err result (ended.why clean (shows (state g first) ours))
+          (λ fault. stopped_more (FailsToGive blocks_of_text (owner_values o) (Some size) (state g first) (state g now)) (FailsToGiveBlocks o (Some size) (state g first) (state g now)) fault (λ of it. not_given it));
+      leaves = record { stays = ended.reads.stays; same = λ clean. ok_then result (ended.reads.same clean) (λ same. inr same) };
+      outlet = ended.outlet;
+      there = ended.there;
+    })
 
 -- the rows so far were sent, and there is more to send
 pub record HasSent {S : Type 0} (g : Ghosts S) (sql : List ℕ) (params : Row) (first now : Held S) (size left count : ℕ) (start taken : Option (List ℕ)) (were are : ℕ) : Type 0 where

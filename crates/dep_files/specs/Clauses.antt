@@ -67,6 +67,14 @@ module _ {S A E : Type 0} (are_ours : State → Type 0) (g : Ghosts S) (old new 
   FailsOver why = HasCleanDisk (state g new) → are_ours (state g old)
       → IfErr result (why (state g old) (state g new))
 
+-- all that a call says which looks something up: what is found, why it was not, and what is kept
+pub record FindsOver {S A E : Type 0} (are_ours : State → Type 0) (g : Ghosts S) (old new : Held S)
+    (result : Result A E) (found : Tables → A → Type 0) (why : State → State → E → Type 0)
+    : Type 0 where
+  pub ok : ReportsOver are_ours g old new result found
+  pub cause : FailsOver are_ours g old new result why
+  pub reads : ReadsOver g old new result
+
 -- a failure has this cause, whatever the tables are
 abbrev pub FailsFor : {S A E : Type 0} (g : Ghosts S) (old new : Held S) → Result A E
     → (State → State → E → Type 0) → Type 0

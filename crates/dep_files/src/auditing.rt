@@ -4,9 +4,9 @@ ghost use Rattle.std.specs.Prelude.{◌≡◌, ◌≢◌, [], OnOk, OnErr};
 ghost use Rattle.sqlite.specs.Held.{state};
 ghost use Rattle.dep_manifest.specs.Growing.{Grows};
 ghost use Rattle.dep_tables.specs.Tables.{IsOurs};
-ghost use Rattle.dep_files.specs.Clauses.{ReportsOver, ReadsOver, FailsOver};
-ghost use Rattle.dep_files.specs.Fixity.{HasFixity, IsAudited, KeepsDamaged, number_if_damaged};
-ghost use Rattle.dep_files.specs.Causes.{FailsToFindFixity, FailsToCheck, FailsToAudit};
+ghost use Rattle.dep_files.specs.Clauses.{FailsOver, FindsOver, ReadsOver, ReportsOver};
+ghost use Rattle.dep_files.specs.Fixity.{IsAudited, KeepsDamaged, number_if_damaged};
+ghost use Rattle.dep_files.specs.Causes.{FailsToCheck, FailsToAudit};
 
 use crate::asking::checked_number_at;
 use crate::hashing::hash_blocks;
@@ -42,28 +42,6 @@ struct FileFixity {
     digests: Digests,
 }
 
-fn find_fixity<S: Alter, W: Watch>(
-    connection: &mut Connection<S>,
-    row: &Row,
-    watch: &mut W,
-) -> Result<FileFixity, StoreFault>
-    ensures ok { ReportsOver IsOurs S.Store connection.old connection.new result
-        (λ t. HasFixity t row.now) }
-    ensures cause { FailsOver IsOurs S.Store connection.old connection.new result
-        (FailsToFindFixity row.now) }
-    ensures reads { ReadsOver S.Store connection.old connection.new result }
-{
-    let file = checked_number_at(row, 0)?;
-    let sha512 = find_sha512(connection, BlockOwner::File(file))?;
-    let digests = hash_blocks(connection, BlockOwner::File(file), watch)?;
-    Ok(FileFixity {
-        file,
-        sha256: digest_at(row, 1),
-        sha512,
-        digests,
-    })
-}
-
 // Notes the number of the file where its bytes have other digests than those that are kept, or where one of these isn't.
 fn note(damaged: &mut Vec<u64>, found: &FileFixity) -> Result<(), AllocError>
     ensures ok { OnOk result (Grows damaged.old damaged.new (number_if_damaged found.now)) }
@@ -80,19 +58,26 @@ fn note(damaged: &mut Vec<u64>, found: &FileFixity) -> Result<(), AllocError>
     note_damaged(damaged, found.file, &kept, &found.digests)
 }
 
+// Checks the file of a row of the list, and notes its number where it is damaged.
 fn keep_damaged<S: Alter, W: Watch>(
     connection: &mut Connection<S>,
     damaged: &mut Vec<u64>,
     row: &Row,
     watch: &mut W,
 ) -> Result<(), StoreFault>
-    ensures notes { ReportsOver IsOurs S.Store connection.old connection.new result
-        (λ t _. KeepsDamaged t row.now damaged.old.items damaged.new.items) }
-    ensures cause { FailsOver IsOurs S.Store connection.old connection.new result
+    ensures { FindsOver IsOurs S.Store connection.old connection.new result
+        (λ t _. KeepsDamaged t row.now damaged.old.items damaged.new.items)
         (FailsToCheck row.now) }
-    ensures reads { ReadsOver S.Store connection.old connection.new result }
 {
-    let found = find_fixity(connection, row, watch)?;
+    let file = checked_number_at(row, 0)?;
+    let sha512 = find_sha512(connection, BlockOwner::File(file))?;
+    let digests = hash_blocks(connection, BlockOwner::File(file), watch)?;
+    let found = FileFixity {
+        file,
+        sha256: digest_at(row, 1),
+        sha512,
+        digests,
+    };
     note(damaged, &found)?;
     Ok(())
 }

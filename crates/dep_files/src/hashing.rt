@@ -2,15 +2,14 @@
 
 ghost use Rattle.std.specs.Prelude.{◌≡◌, ◌++◌, ℕ, List, None, IfErr, OnOk};
 ghost use Rattle.sqlite.specs.Order.{column};
-ghost use Rattle.sqlite.specs.Values.{bound};
 ghost use Rattle.dep_fixity.specs.Fixity.{Holds};
 ghost use Rattle.dep_types.specs.declared.store_fault.StoreFault.TheVariants.{Store};
 ghost use Rattle.dep_tables.specs.Rows.{IsBytesValue};
 ghost use Rattle.dep_tables.specs.Tables.{IsKnown};
-ghost use Rattle.dep_files.specs.Clauses.{OnlyReads, OnlyShows, ReportsSeen, ReportsOver, ReadsOver, FailsOver};
+ghost use Rattle.dep_files.specs.Clauses.{FindsOver};
 ghost use Rattle.dep_files.specs.Sent.{blob_of};
-ghost use Rattle.dep_files.specs.Fixity.{AreDigestsOf, HashesShown};
-ghost use Rattle.dep_files.specs.Causes.{FailsToGive, FailsToGiveBlocks};
+ghost use Rattle.dep_files.specs.Fixity.{AreDigestsOf};
+ghost use Rattle.dep_files.specs.Causes.{FailsToGiveBlocks};
 
 use crate::query::blocks_query;
 use crate::watch::Watch;
@@ -36,23 +35,23 @@ fn hash_row<W: Watch>(row: &Row, hasher: &mut Hasher, watch: &mut W) -> Result<(
     }
 }
 
-// The digests of the third column of each row that a query shows, joined.
-fn hash_rows<S: Alter, W: Watch>(
+/// Returns the digests of the blocks of an owner, joined by part and place, over the tables of any version.
+/// Each block is read once, and one is held at a time; its length is passed to `watch`. A number of 2^63 or
+/// more is a fault of the store, and so is a block that has no bytes.
+pub(crate) fn hash_blocks<S: Alter, W: Watch>(
     connection: &mut Connection<S>,
-    sql: &str,
-    params: &[ValueRef<'_>],
+    owner: BlockOwner,
     watch: &mut W,
 ) -> Result<Digests, StoreFault>
-    requires { OnlyReads sql.now }
-    ensures hashes { ReportsSeen (OnlyShows sql.now) S.Store connection.old connection.new result
-        (HashesShown sql.now (bound params.now)) }
-    ensures cause { FailsOver (OnlyShows sql.now) S.Store connection.old connection.new result
-        (FailsToGive sql.now (bound params.now) None) }
-    ensures reads { ReadsOver S.Store connection.old connection.new result }
+    ensures { FindsOver IsKnown S.Store connection.old connection.new result
+        (λ t. AreDigestsOf t owner) (FailsToGiveBlocks owner None) }
 {
+    if !is_storable_owner(owner) {
+        return Err(StoreFault::Store);
+    }
     let mut hasher = Hasher::new();
     // With `map_err` no proof would know what a failure leaves of the connection.
-    let mut rows = match connection.query(sql, params) {
+    let mut rows = match connection.query(blocks_query(), &owner_params(owner)) {
         Ok(rows) => rows,
         Err(error) => return Err(fault_of(error)),
     };
@@ -65,24 +64,4 @@ fn hash_rows<S: Alter, W: Watch>(
         hash_row(row, &mut hasher, watch)?;
     }
     Err(StoreFault::Store)
-}
-
-/// Returns the digests of the blocks of an owner, joined by part and place, over the tables of any version.
-/// Each block is read once, and one is held at a time; its length is passed to `watch`. A number of 2^63 or
-/// more is a fault of the store, and so is a block that has no bytes.
-pub(crate) fn hash_blocks<S: Alter, W: Watch>(
-    connection: &mut Connection<S>,
-    owner: BlockOwner,
-    watch: &mut W,
-) -> Result<Digests, StoreFault>
-    ensures hashes { ReportsOver IsKnown S.Store connection.old connection.new result
-        (λ t. AreDigestsOf t owner) }
-    ensures cause { FailsOver IsKnown S.Store connection.old connection.new result
-        (FailsToGiveBlocks owner None) }
-    ensures reads { ReadsOver S.Store connection.old connection.new result }
-{
-    if !is_storable_owner(owner) {
-        return Err(StoreFault::Store);
-    }
-    hash_rows(connection, blocks_query(), &owner_params(owner), watch)
 }

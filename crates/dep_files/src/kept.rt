@@ -3,7 +3,7 @@
 ghost use Rattle.std.specs.Prelude.{◌≡◌, ◌∷◌, [], map};
 ghost use Rattle.sqlite.specs.Order.{column};
 ghost use Rattle.dep_tables.specs.Tables.{IsOurs};
-ghost use Rattle.dep_files.specs.Clauses.{ReportsOver, ReadsOver, FailsFor};
+ghost use Rattle.dep_files.specs.Clauses.{FindsOver};
 ghost use Rattle.dep_files.specs.Fixity.{IsKeptDigest, IsKeptSha512, sha256_rows};
 ghost use Rattle.dep_files.specs.Causes.{FailsToFindSha512, FailsToListSha256s};
 
@@ -38,11 +38,8 @@ pub(crate) fn find_sha512<S: Alter>(
     connection: &mut Connection<S>,
     owner: BlockOwner,
 ) -> Result<Option<[u8; 64]>, StoreFault>
-    ensures ok { ReportsOver IsOurs S.Store connection.old connection.new result
-        (λ t. IsKeptSha512 t owner) }
-    ensures cause { FailsFor S.Store connection.old connection.new result
-        (FailsToFindSha512 owner) }
-    ensures reads { ReadsOver S.Store connection.old connection.new result }
+    ensures { FindsOver IsOurs S.Store connection.old connection.new result
+        (λ t. IsKeptSha512 t owner) (FailsToFindSha512 owner) }
 {
     if !is_storable_owner(owner) {
         return Err(StoreFault::Store);
@@ -61,11 +58,8 @@ pub(crate) fn list_sha256s<S: Alter>(
     connection: &mut Connection<S>,
     object: u64,
 ) -> Result<Vec<Row>, StoreFault>
-    ensures ok { ReportsOver IsOurs S.Store connection.old connection.new result
-        (λ t rows. rows.items ≡ sha256_rows object t) }
-    ensures cause { FailsFor S.Store connection.old connection.new result
-        (FailsToListSha256s object) }
-    ensures reads { ReadsOver S.Store connection.old connection.new result }
+    ensures { FindsOver IsOurs S.Store connection.old connection.new result
+        (λ t rows. rows.items ≡ sha256_rows object t) (FailsToListSha256s object) }
 {
     if object >= LIMIT {
         return Err(StoreFault::Store);

@@ -24,6 +24,7 @@ pub use blocks::{delete_blocks, put_blocks};
 pub use content::{BLOCK_SIZE, Content};
 pub use files::{delete_file, delete_files, put_file};
 pub use loading::{find_file, load_content, load_files, load_sha512s};
-pub use streaming::{stream_blocks, stream_content};
+pub use sending::stream_blocks;
+pub use streaming::stream_content;
 pub use upgrading::hash_files;
 pub use watch::{Unwatched, Watch};

@@ -7,7 +7,7 @@ ghost use Rattle.dep_statements.specs.Rows.{columns_from};
 ghost use Rattle.dep_tables.specs.Clauses.{AtMostOne, IsFaultAt};
 ghost use Rattle.dep_tables.specs.Rows.{IsNumberRow};
 ghost use Rattle.dep_tables.specs.Tables.{IsKnown};
-ghost use Rattle.dep_files.specs.Clauses.{ReportsOver, ReadsOver, FailsFor};
+ghost use Rattle.dep_files.specs.Clauses.{FindsOver};
 ghost use Rattle.dep_files.specs.Sha512s.{IsFileAfter};
 ghost use Rattle.dep_files.specs.Causes.{FailsToFindFile};
 
@@ -33,10 +33,8 @@ pub(crate) fn next_file<S: Alter>(
     connection: &mut Connection<S>,
     after: u64,
 ) -> Result<Option<u64>, StoreFault>
-    ensures ok { ReportsOver IsKnown S.Store connection.old connection.new result
-        (λ t. IsFileAfter t after) }
-    ensures cause { FailsFor S.Store connection.old connection.new result (FailsToFindFile after) }
-    ensures reads { ReadsOver S.Store connection.old connection.new result }
+    ensures { FindsOver IsKnown S.Store connection.old connection.new result
+        (λ t. IsFileAfter t after) (FailsToFindFile after) }
 {
     if after >= LIMIT {
         return Err(StoreFault::Store);

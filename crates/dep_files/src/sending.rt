@@ -1,15 +1,16 @@
-//! The rows of a query of blocks, sent one at a time.
+//! The blocks of an owner, sent one at a time.
 
 ghost use Rattle.std.specs.Prelude.{◌≡◌, ◌≢◌, ◌⊎◌, ◌≤◌, ◌<◌, IfOk, Err, length};
-ghost use Rattle.sqlite.specs.Values.{bound};
 ghost use Rattle.sqlite.specs.Order.{column};
 ghost use Rattle.dep_tables.specs.Rows.{IsBytesValue};
-ghost use Rattle.dep_files.specs.Clauses.{OnlyReads, OnlyShows, ReadsOver, FailsOver, GivesOver};
-ghost use Rattle.dep_files.specs.Causes.{FailsToSend};
+ghost use Rattle.dep_tables.specs.Tables.{IsOurs};
+ghost use Rattle.dep_files.specs.Clauses.{LeavesOver, FailsOver, GivesOver};
+ghost use Rattle.dep_files.specs.Causes.{FailsToSendBlocks};
 ghost use Rattle.dep_files.specs.Faults.{BlamesOutlet};
-ghost use Rattle.dep_files.specs.Sent.{blob_of, GivesSized, SendsSized};
+ghost use Rattle.dep_files.specs.Sent.{blob_of, GivesSized, SendsBlocksOf};
 
-use dep_tables::fault_of;
+use crate::query::blocks_query;
+use dep_tables::{BlockOwner, fault_of, is_storable_owner, owner_params};
 use dep_types::{Outlet, StreamFault};
 use sqlite::types::ValueRef;
 use sqlite::{Alter, Connection, Row};
@@ -33,28 +34,31 @@ fn give_sized<O: Outlet>(row: &Row, most: u64, out: &mut O) -> Result<u64, Strea
     Ok(size)
 }
 
-/// Sends the bytes of each block that a query shows, up to so many bytes in all. It holds one row at a time.
-pub(crate) fn stream_sized<S: Alter, O: Outlet>(
+/// Sends the blocks of an owner, by part and place, up to so many bytes in all. It holds one block at
+/// a time. A number of 2^63 or more is a fault of the store.
+pub fn stream_blocks<S: Alter, O: Outlet>(
     connection: &mut Connection<S>,
-    sql: &str,
-    params: &[ValueRef<'_>],
+    owner: BlockOwner,
     size: u64,
     out: &mut O,
 ) -> Result<(), StreamFault>
-    requires some { 0 < size }
-    requires query { OnlyReads sql.now }
-    ensures streams { GivesOver (OnlyShows sql.now) S.Store connection.old connection.new
-        (O.taken out.old) (O.taken out.new)
-        (λ s sent. SendsSized sql.now (bound params.now) s size sent result) }
-    ensures why { FailsOver (OnlyShows sql.now) S.Store connection.old connection.new result
-        (FailsToSend sql.now (bound params.now) size) }
-    ensures reads { ReadsOver S.Store connection.old connection.new result }
+    ensures streams { GivesOver IsOurs S.Store connection.old connection.new
+        (O.taken out.old) (O.taken out.new) (SendsBlocksOf owner size result) }
+    ensures why { FailsOver IsOurs S.Store connection.old connection.new result
+        (FailsToSendBlocks owner size) }
+    ensures leaves { LeavesOver S.Store connection.old connection.new result }
     ensures outlet { BlamesOutlet StreamFault.Writer (O.failures out.old) (O.failures out.new) result }
     ensures there { result ≢ Err StreamFault.NoSuchFile }
 {
+    if size == 0 {
+        return Ok(());
+    }
+    if !is_storable_owner(owner) {
+        return Err(StreamFault::Store);
+    }
     let mut left = size;
     // With `map_err` no proof would know what a failure leaves of the connection.
-    let mut rows = match connection.query(sql, params) {
+    let mut rows = match connection.query(blocks_query(), &owner_params(owner)) {
         Ok(rows) => rows,
         Err(error) => return Err(StreamFault::from(fault_of(error))),
     };

@@ -6,7 +6,7 @@ ghost use Rattle.dep_types.specs.declared.store_fault.StoreFault.TheVariants.{St
 ghost use Rattle.dep_statements.specs.Rows.{columns_from};
 ghost use Rattle.dep_tables.specs.Tables.{IsOurs};
 ghost use Rattle.dep_tables.specs.Clauses.{AtMostOne, IsFaultAt};
-ghost use Rattle.dep_files.specs.Clauses.{ReportsOver, ReadsOver, FailsFor};
+ghost use Rattle.dep_files.specs.Clauses.{FindsOver};
 ghost use Rattle.dep_files.specs.Sizes.{IsSizeRow, IsSizeOf, size_values};
 ghost use Rattle.dep_files.specs.Causes.{FailsToFindSize};
 
@@ -52,10 +52,8 @@ pub(crate) fn find_size<S: Alter>(
     connection: &mut Connection<S>,
     file: u64,
 ) -> Result<Option<FileSize>, StoreFault>
-    ensures ok { ReportsOver IsOurs S.Store connection.old connection.new result
-        (λ t. IsSizeOf t file) }
-    ensures cause { FailsFor S.Store connection.old connection.new result (FailsToFindSize file) }
-    ensures reads { ReadsOver S.Store connection.old connection.new result }
+    ensures { FindsOver IsOurs S.Store connection.old connection.new result
+        (λ t. IsSizeOf t file) (FailsToFindSize file) }
 {
     if file >= LIMIT {
         return Err(StoreFault::Store);

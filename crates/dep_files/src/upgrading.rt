@@ -2,7 +2,7 @@
 
 ghost use Rattle.sqlite.specs.Held.{state};
 ghost use Rattle.dep_tables.specs.Tables.{IsKnown};
-ghost use Rattle.dep_files.specs.Clauses.{ReportsOver, ReadsOver, FailsOver};
+ghost use Rattle.dep_files.specs.Clauses.{FailsOver, FindsOver, ReadsOver, ReportsOver};
 ghost use Rattle.dep_files.specs.Sha512s.{IsValueAfter, AreValuesOf};
 ghost use Rattle.dep_files.specs.Causes.{FailsToHashNext, FailsToHashFiles};
 
@@ -20,11 +20,8 @@ fn next_value<S: Alter, W: Watch>(
     after: u64,
     watch: &mut W,
 ) -> Result<Option<FileSha512>, StoreFault>
-    ensures ok { ReportsOver IsKnown S.Store connection.old connection.new result
-        (λ t. IsValueAfter t after) }
-    ensures cause { FailsOver IsKnown S.Store connection.old connection.new result
-        (FailsToHashNext after) }
-    ensures reads { ReadsOver S.Store connection.old connection.new result }
+    ensures { FindsOver IsKnown S.Store connection.old connection.new result
+        (λ t. IsValueAfter t after) (FailsToHashNext after) }
 {
     let Some(file) = next_file(connection, after)? else {
         return Ok(None);

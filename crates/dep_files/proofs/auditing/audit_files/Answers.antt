@@ -29,7 +29,7 @@ files-preserved g c =
           let before = kept.reads.stays.honest clean in
           let same = inv.0.same before in
           let done = inv.1 before ours in
-          let noted = kept.notes clean (ours_still old mid (still_same old mid same) ours) in
+          let noted = kept.ok clean (ours_still old mid (still_same old mid same) ours) in
           let row = c.row-item.result in
           let it = subst (λ (t : Tables). KeepsDamaged t row c.files.damaged.items c.keep_damaged.new.damaged.items) (same_tables old mid same) noted in
           let xs = c.as_slice-row-items.result.now in
@@ -66,7 +66,7 @@ returns g c =
 
 -- the files were not listed
 pub returns-in_err-rows : goal.returns-in_err-rows
-returns-in_err-rows g c = rw (passed_on c.from_residual.result c.in_err-rows.field-0.0 c.from_residual.ensures.1) record { audits = λ clean ours. tt; cause = λ clean ours. inl (c.in_err-rows.ensures.cause clean); reads = over_err c.in_err-rows.ensures.reads }
+returns-in_err-rows g c = rw (passed_on c.from_residual.result c.in_err-rows.field-0.0 c.from_residual.ensures.1) record { audits = λ clean ours. tt; cause = λ clean ours. inl (c.in_err-rows.ensures.cause clean ours); reads = over_err c.in_err-rows.ensures.reads }
 
 -- one was not checked
 pub returns-in_err-keep_damaged : goal.returns-in_err-keep_damaged

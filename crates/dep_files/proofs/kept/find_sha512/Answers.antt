@@ -18,7 +18,7 @@ returns g c =
     record {
       ok = λ clean ours. finds_kept (state g.S.Store c.args.connection.now) (state g.S.Store c.ask.new.connection) c.args.owner _ c.only.result ours (reported.shows clean)
           (subst (λ rows. IsKeptDigest 64 (map (λ row. column row 0) rows) c.only.result) c.as_slice.ensures.value c.only.ensures);
-      cause = λ clean. tt;
+      cause = λ clean ours. tt;
       reads = over_ok reported.reads;
     }
 
@@ -26,4 +26,4 @@ pub returns-in_err-rows : goal.returns-in_err-rows
 returns-in_err-rows g c =
     let reported = rw c.owner_params.ensures at c.in_err-rows.ensures in
     let passed = passed_on c.from_residual.result c.in_err-rows.field-0.0 c.from_residual.ensures.1 in
-    rw passed record { ok = λ clean ours. tt; cause = λ clean. not_reported (reported.cause clean); reads = over_err reported.reads }
+    rw passed record { ok = λ clean ours. tt; cause = λ clean ours. not_reported (reported.cause clean); reads = over_err reported.reads }

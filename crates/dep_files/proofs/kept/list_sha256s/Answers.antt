@@ -14,6 +14,6 @@ returns g c =
     record {
       ok = λ clean ours. if_then c.ask.result (reported.shows clean)
           (λ rows shown. lists_kept (state g.S.Store c.args.connection.now) (state g.S.Store c.ask.new.connection) c.args.object rows.items ours shown);
-      cause = λ clean. if_err c.ask.result (reported.cause clean) (λ fault it. not_reported it);
+      cause = λ clean ours. if_err c.ask.result (reported.cause clean) (λ fault it. not_reported it);
       reads = reported.reads;
     }

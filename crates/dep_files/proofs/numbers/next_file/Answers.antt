@@ -22,7 +22,7 @@ returns g c =
     record {
       ok = λ clean known. if_then c.only.result c.only.ensures.reported
           (λ found read. nexts_file old new c.args.after found _ known (reported.shows clean) (read ∙ ap (map (columns_from 0 1)) c.as_slice.ensures.value));
-      cause = λ clean. if_err c.only.result c.only.ensures.refused
+      cause = λ clean known. if_err c.only.result c.only.ensures.refused
           (λ fault it. not_reported (inr (_, reported.shows clean, subst (λ rows. IsFaultAt ⊥ (AtMostOne IsNumberRow) rows fault) c.as_slice.ensures.value it)));
       reads = over_ok reported.reads;
     }
@@ -31,4 +31,4 @@ pub returns-in_err-rows : goal.returns-in_err-rows
 returns-in_err-rows g c =
     let reported = rw c.key_param.ensures at c.in_err-rows.ensures in
     let passed = passed_on c.from_residual.result c.in_err-rows.field-0.0 c.from_residual.ensures.1 in
-    rw passed record { ok = λ clean known. tt; cause = λ clean. not_reported (inl (reported.cause clean)); reads = over_err reported.reads }
+    rw passed record { ok = λ clean known. tt; cause = λ clean known. not_reported (inl (reported.cause clean)); reads = over_err reported.reads }

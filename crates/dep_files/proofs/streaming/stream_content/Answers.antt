@@ -28,7 +28,7 @@ returns-in_err-found g c =
     let passed = passed_on c.from_residual.result (stream_fault_for fault) c.from_residual.ensures.1 in
     rw passed record {
       streams = ([], Appends-nil _, λ clean ours s are. none_streamed s c.args.file fault);
-      why = λ clean ours. reported_for (FailsToStream c.args.file _ _) fault (no_size (failed.cause clean));
+      why = λ clean ours. reported_for (FailsToStream c.args.file _ _) fault (no_size (failed.cause clean ours));
       reads = record { stays = failed.reads.stays; same = λ clean. tt };
       outlet = record { kept = tt; cause = λ e. absurd (asked_failed fault e); others = λ _. refl };
     }

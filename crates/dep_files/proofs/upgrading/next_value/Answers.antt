@@ -11,7 +11,7 @@ use Rattle.dep_files.proofs.upgrading.next_value.Goals as goal
 
 -- the file was not told
 pub returns-in_err-file : goal.returns-in_err-file
-returns-in_err-file g c = rw (passed_on c.from_residual.result c.in_err-file.field-0.0 c.from_residual.ensures.1) record { ok = λ clean known. tt; cause = λ clean known. no_file (c.in_err-file.ensures.cause clean); reads = over_err c.in_err-file.ensures.reads }
+returns-in_err-file g c = rw (passed_on c.from_residual.result c.in_err-file.field-0.0 c.from_residual.ensures.1) record { ok = λ clean known. tt; cause = λ clean known. no_file (c.in_err-file.ensures.cause clean known); reads = over_err c.in_err-file.ensures.reads }
 
 -- there is none
 pub returns-in_default : goal.returns-in_default
@@ -32,7 +32,7 @@ returns g c =
     record {
       ok = λ clean known. (
         subst (IsFileAfter (tables_of old) c.args.after) c.in-Some.is (first.ok (second.reads.stays.honest clean) known),
-        (c.in_ok-digests.digests, hashed_behind first.reads second.reads (owner.File c.in-Some.file) c.in_ok-digests.digests second.hashes clean known, refl),
+        (c.in_ok-digests.digests, hashed_behind first.reads second.reads (owner.File c.in-Some.file) c.in_ok-digests.digests second.ok clean known, refl),
       );
       cause = λ clean known. tt;
       reads = over_ok (over_then first.reads second.reads);

@@ -1,10 +1,11 @@
 use Rattle.std.proofs.Common.{◌≡◌}
 use Rattle.sqlite.specs.State.{HasCleanDisk}
 use Rattle.sqlite.specs.Held.{state}
-use Rattle.sqlite.specs.Values.{bound}
+use Rattle.dep_tables.specs.Rows.{owner_values}
+use Rattle.dep_tables.specs.Texts.{blocks_of_text}
 use Rattle.dep_files.specs.Clauses.{StaysOver}
 use Rattle.dep_files.proofs.RowByRow.{Hashed}
-use Rattle.dep_files.proofs.hashing.hash_rows.Given as goal
+use Rattle.dep_files.proofs.hashing.hash_blocks.Given as goal
 
 -- the hasher holds the rows so far
 abbrev pub invariant-rows : goal.invariant-rows
@@ -13,4 +14,4 @@ invariant-rows g l =
     let now = l.rows.conn.now in
     (l.rows.conn.ghost_name ≡ l.initial.rows.conn.ghost_name)
     × StaysOver g.S.Store old now
-    × (HasCleanDisk (state g.S.Store now) → Hashed g.S.Store l.sql (bound l.params) (state g.S.Store old) now l.counter l.hasher)
+    × (HasCleanDisk (state g.S.Store now) → Hashed g.S.Store blocks_of_text (owner_values l.fn.owner) (state g.S.Store old) now l.counter l.hasher)
