@@ -193,7 +193,7 @@ fn check_document(
             Err(DocFault::Memory) => Err(AllocError),
         },
         Some(Purpose::References) => {
-            match references_rule(alloc, view, view.references.as_ref())? {
+            match references_rule(alloc, view)? {
                 Some(refusal) => Ok(Checked::Refused(refusal)),
                 None => Ok(Checked::Passed(ReadContent {
                     metadata: None,

@@ -1,7 +1,6 @@
 //! The rules on references (SWORD 3.0, by-reference deposit), one after another, each over all entries.
 ghost use Rattle.std.specs.Prelude.{◌≡◌, IfOk, Some};
 ghost use Rattle.std.specs.List.{list_any};
-ghost use Rattle.std.specs.Option.{option_copied};
 ghost use Rattle.dep_decisions.specs.Rules.{digests_refusal, each, entries_refusal, length_refusal, missing_refusal, references_refusal, occurs_twice};
 ghost use Rattle.dep_operations.specs.Rules.{is_other_packaging, points_elsewhere, rule_of, segments_refusal};
 ghost use Rattle.dep_operations.specs.Seen.{entries_seen, entry_seen, in_view, is_timed_out, known_live, live_in, promised_in};
@@ -11,7 +10,7 @@ use crate::view::{UploadState, UploadView, View};
 use dep_decisions::is_binary;
 use dep_docs_in::{Pointed, Reference};
 use dep_fixity::{DigestList, check};
-use dep_types::{List, Refusal, UploadRow};
+use dep_types::{Refusal, UploadRow};
 use std::alloc::{AllocError, Global};
 use std::collections::BTreeSet;
 
@@ -29,15 +28,11 @@ pub(crate) enum UploadRule {
 
 /// The first rule on references that is broken. There is a view for each entry that points at an upload, in
 /// their order.
-pub(crate) fn references_rule(
-    alloc: Global,
-    view: &View,
-    references: Option<&List<Reference>>,
-) -> Result<Option<Refusal>, AllocError>
+pub(crate) fn references_rule(alloc: Global, view: &View) -> Result<Option<Refusal>, AllocError>
     ensures { IfOk result
-        (λ refusal. refusal ≡ references_refusal (in_view view.now) (option_copied references.entry)) }
+        (λ refusal. refusal ≡ references_refusal (in_view view.now) view.now.references) }
 {
-    match references {
+    match &view.references {
         Some(references) => entries_rule(alloc, view, references.as_slice()),
         None => Ok(Some(Refusal::ContentMalformed)),
     }
@@ -194,10 +189,10 @@ fn digest_rule(reference: &Reference, state: &UploadState) -> Option<Refusal>
     let UploadState::Live(upload) = state else {
         return None;
     };
-    match upload.digests {
+    match &upload.digests {
         None => None,
         Some(digests) => {
-            if check(&promised_in(&upload.row), &digests) && check(&reference.digest, &digests) {
+            if check(&promised_in(&upload.row), digests) && check(&reference.digest, digests) {
                 None
             } else {
                 Some(Refusal::DigestMismatch)

@@ -154,7 +154,7 @@ fn segment_rule(
 {
     match (resource, view.uploads.as_slice()) {
         (Resource::Upload(_), [upload]) => match &upload.state {
-            UploadState::Live(live) => live_rule(live.row, view.repeats, segment, content),
+            UploadState::Live(live) => live_rule(&live.row, view.repeats, segment, content),
             _ => None,
         },
         _ => None,
@@ -162,12 +162,12 @@ fn segment_rule(
 }
 
 fn live_rule(
-    row: UploadRow,
+    row: &UploadRow,
     repeats: Option<bool>,
     segment: u64,
     content: &HashedOctets,
 ) -> Option<Refusal>
-    ensures { result ≡ segment_by row.count (row_length row segment) repeats segment content.now }
+    ensures { result ≡ segment_by row.now.count (row_length row.now segment) repeats segment content.now }
 {
     if segment < 1 || segment > row.count {
         return Some(Refusal::UnexpectedSegment);
@@ -190,8 +190,8 @@ fn repeat_rule(fits: bool, repeats: Option<bool>) -> Option<Refusal>
 
 // The length of a segment: the last one has the rest. A product past 64 bits is above the size, so
 // that nothing is left.
-fn row_length(row: UploadRow, segment: u64) -> u64
-    ensures { result ≡ row_length row segment }
+fn row_length(row: &UploadRow, segment: u64) -> u64
+    ensures { result ≡ row_length row.now segment }
 {
     if segment == row.count {
         let before_last = row.count.saturating_sub(1).saturating_mul(row.segment_size);
