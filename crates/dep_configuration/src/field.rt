@@ -8,7 +8,7 @@ use dep_types::{
 use std::fmt;
 
 /// A field of a configuration.
-#[derive(Clone, Copy, Debug)]
+#[derive(Clone, Copy)]
 pub enum ConfigurationField {
     /// The IP address to listen at.
     Address,

@@ -5,3 +5,15 @@ use Rattle.dep_configuration.proofs.configuration.configuration_in.Goals as goal
 
 pub overflow_cast-result : goal.overflow_cast-result
 overflow_cast-result c = omega (arith, port-fits (value_view c.args.value.now) c.number.result c.number.ensures)
+
+pub returns : goal.returns
+returns c = record {
+  address = c.address.ensures;
+  port = c.number.ensures;
+  database = c.in_ok-database.ensures;
+  spool_folder = c.in_ok-spool_folder.ensures;
+  stop_file = c.in_ok-stop_file.ensures;
+  config = c.in_ok-config.ensures;
+  limits = c.limits_in.ensures;
+  reserve = c.number-2.ensures;
+}
