@@ -70,19 +70,13 @@ module _ {S A E : Type 0} (are_ours : State → Type 0) (g : Ghosts S) (old new 
   FailsOver why = HasCleanDisk (state g new) → are_ours (state g old)
       → IfErr result (why (state g old) (state g new))
 
--- a failure has this cause, whatever the tables are
-abbrev pub FailsFor : {S A E : Type 0} (g : Ghosts S) (old new : Held S) → Result A E
-    → (State → State → E → Type 0) → Type 0
-FailsFor g old new result why =
-    HasCleanDisk (state g new) → IfErr result (why (state g old) (state g new))
-
--- all that a call says which asks a query that only shows
+-- all that a call says which asks a query that only shows, whatever the tables are
 pub record ShowsOver {S : Type 0} (g : Ghosts S) (old new : Held S) (sql : List ℕ) (params : Row)
     (result : Result (Vec Row) StoreFault) (why : State → State → StoreFault → Type 0)
     : Type 0 where
   pub shows : HasCleanDisk (state g new)
       → IfOk result (λ rows. Shown sql params (state g old) (state g new) rows.items)
-  pub cause : FailsFor g old new result why
+  pub cause : HasCleanDisk (state g new) → IfErr result (why (state g old) (state g new))
   pub reads : ReadsOver g old new result
 
 -- all that a call says which looks something up: what is found, why it was not, and what is kept
