@@ -59,6 +59,12 @@ pub data FailsToGiveBlocks (o : BlockOwner) (size : Option ℕ) (old new : State
 abbrev pub FailsToSendBlocks : BlockOwner → ℕ → State → State → StreamFault → Type 0
 FailsToSendBlocks o size old new = IsStoppedBy (FailsToGiveBlocks o (Some size) old new)
 
+-- why the rows were not shown of a query for a number
+abbrev pub FailsToAskFor : List ℕ → ℕ → State → State → StoreFault → Type 0
+FailsToAskFor sql number old new fault =
+    ((¬ (number < 2 ^ 63)) × (fault ≡ Store))
+    ⊎ FailsToAsk sql (Int (pos number) ∷ []) old new fault
+
 -- why the size of a file was not found
 pub data FailsToFindSize (file : ℕ) (old new : State) (fault : StoreFault) : Type 0 where
   no_number : ¬ (file < 2 ^ 63) → fault ≡ Store → FailsToFindSize file old new fault

@@ -1,13 +1,16 @@
 -- What the clauses of a call say that reads the tables over a connection.
 use Rattle.std.specs.Prelude.{◌≡◌, ◌⊎◌, ⊤, ℕ, List, false, IsTrue, Option, None, Result, Ok, Err, IfOk, IfErr, OnOk}
+use Rattle.std.specs.Global.{Vec}
 use Rattle.std.specs.Io.KnownBytes.{Appends}
 use Rattle.sqlite_trees.specs.declared.store.Store.{Ghosts}
-use Rattle.sqlite.specs.State.{State, HasCleanDisk, IsUnchanged, Survives}
+use Rattle.sqlite.specs.Order.{Row}
+use Rattle.sqlite.specs.State.{State, HasCleanDisk, IsUnchanged, Shown, Survives}
 use Rattle.sqlite.specs.Held.{Held, state}
 use Rattle.sqlite.specs.Listing.{understood}
 use Rattle.sqlite.specs.Schema.{Schema}
 use Rattle.sqlite_resolve.specs.declared.compiled.Compiled.{Compiled}
 use Rattle.sqlite_resolve.specs.declared.error.CompileError.{CompileError}
+use Rattle.dep_types.specs.declared.store_fault.StoreFault.{StoreFault}
 use Rattle.dep_tables.specs.Clauses.{IsPlainIn}
 use Rattle.dep_tables.specs.Tables.{Tables, tables_of}
 use Rattle.dep_files.specs.Reading.{IsKept}
@@ -67,6 +70,15 @@ module _ {S A E : Type 0} (are_ours : State → Type 0) (g : Ghosts S) (old new 
   FailsOver why = HasCleanDisk (state g new) → are_ours (state g old)
       → IfErr result (why (state g old) (state g new))
 
+-- all that a call says which asks a query that only shows, whatever the tables are
+pub record ShowsOver {S : Type 0} (g : Ghosts S) (old new : Held S) (sql : List ℕ) (params : Row)
+    (result : Result (Vec Row) StoreFault) (why : State → State → StoreFault → Type 0)
+    : Type 0 where
+  pub shows : HasCleanDisk (state g new)
+      → IfOk result (λ rows. Shown sql params (state g old) (state g new) rows.items)
+  pub cause : HasCleanDisk (state g new) → IfErr result (why (state g old) (state g new))
+  pub reads : ReadsOver g old new result
+
 -- all that a call says which looks something up: what is found, why it was not, and what is kept
 pub record FindsOver {S A E : Type 0} (are_ours : State → Type 0) (g : Ghosts S) (old new : Held S)
     (result : Result A E) (found : Tables → A → Type 0) (why : State → State → E → Type 0)
@@ -74,12 +86,6 @@ pub record FindsOver {S A E : Type 0} (are_ours : State → Type 0) (g : Ghosts 
   pub ok : ReportsOver are_ours g old new result found
   pub cause : FailsOver are_ours g old new result why
   pub reads : ReadsOver g old new result
-
--- a failure has this cause, whatever the tables are
-abbrev pub FailsFor : {S A E : Type 0} (g : Ghosts S) (old new : Held S) → Result A E
-    → (State → State → E → Type 0) → Type 0
-FailsFor g old new result why =
-    HasCleanDisk (state g new) → IfErr result (why (state g old) (state g new))
 
 -- bytes were written to the outlet, and where the tables are ours this holds of them
 abbrev pub GivesOver : {S : Type 0} → (State → Type 0) → (g : Ghosts S) (old new : Held S)

@@ -1,6 +1,6 @@
 //! Files whose bytes are not those that were deposited.
 
-ghost use Rattle.std.specs.Prelude.{◌≡◌, ◌≢◌, [], OnOk, OnErr};
+ghost use Rattle.std.specs.Prelude.{◌≢◌, [], OnOk, OnErr};
 ghost use Rattle.sqlite.specs.Held.{state};
 ghost use Rattle.dep_manifest.specs.Growing.{Grows};
 ghost use Rattle.dep_tables.specs.Tables.{IsOurs};
@@ -8,9 +8,9 @@ ghost use Rattle.dep_files.specs.Clauses.{FailsOver, FindsOver, ReadsOver, Repor
 ghost use Rattle.dep_files.specs.Fixity.{IsAudited, KeepsDamaged, number_if_damaged};
 ghost use Rattle.dep_files.specs.Causes.{FailsToCheck, FailsToAudit};
 
-use crate::asking::checked_number_at;
+use crate::asking::{ask, checked_number_at};
 use crate::hashing::hash_blocks;
-use crate::kept::{digest_at, find_sha512, list_sha256s};
+use crate::kept::{digest_at, find_sha512};
 use crate::watch::Watch;
 use dep_fixity::Digests;
 use dep_manifest::{KeptDigests, note_damaged};
@@ -99,7 +99,11 @@ pub fn audit_files<S: Alter, W: Watch>(
         (FailsToAudit (state S.Store) object) }
     ensures reads { ReadsOver S.Store connection.old connection.new result }
 {
-    let rows = list_sha256s(connection, object)?;
+    let rows = ask(
+        connection,
+        "SELECT file, sha256 FROM files WHERE object = ?1 ORDER BY file",
+        object,
+    )?;
     let mut damaged = Vec::new(alloc);
     'files: for row in rows.as_slice() {
         keep_damaged(connection, &mut damaged, row, watch)?;

@@ -1,14 +1,13 @@
 //! The digests that the tables keep of files.
 
-ghost use Rattle.std.specs.Prelude.{◌≡◌, ◌∷◌, [], map};
+ghost use Rattle.std.specs.Prelude.{◌∷◌, [], map};
 ghost use Rattle.sqlite.specs.Order.{column};
 ghost use Rattle.dep_tables.specs.Tables.{IsOurs};
 ghost use Rattle.dep_files.specs.Clauses.{FindsOver};
-ghost use Rattle.dep_files.specs.Fixity.{IsKeptDigest, IsKeptSha512, sha256_rows};
-ghost use Rattle.dep_files.specs.Causes.{FailsToFindSha512, FailsToListSha256s};
+ghost use Rattle.dep_files.specs.Fixity.{IsKeptDigest, IsKeptSha512};
+ghost use Rattle.dep_files.specs.Causes.{FailsToFindSha512};
 
-use crate::asking::{ask, key_param};
-use dep_tables::{BlockOwner, LIMIT, is_storable_owner, owner_params};
+use dep_tables::{BlockOwner, fault_of, is_storable_owner, owner_params};
 use dep_types::StoreFault;
 use sqlite::types::ValueRef;
 use sqlite::{Alter, Connection, Row};
@@ -44,29 +43,10 @@ pub(crate) fn find_sha512<S: Alter>(
     if !is_storable_owner(owner) {
         return Err(StoreFault::Store);
     }
-    let rows = ask(
-        connection,
-        "SELECT value FROM sha512s WHERE kind = ?1 AND owner = ?2",
-        &owner_params(owner),
-    )?;
-    Ok(only(rows.as_slice()))
-}
-
-/// The number of each file of an object, and what its row keeps as its SHA-256, by ascending number. A number of 2^63 or
-/// more is a fault of the store.
-pub(crate) fn list_sha256s<S: Alter>(
-    connection: &mut Connection<S>,
-    object: u64,
-) -> Result<Vec<Row>, StoreFault>
-    ensures { FindsOver IsOurs S.Store connection.old connection.new result
-        (λ t rows. rows.items ≡ sha256_rows object t) (FailsToListSha256s object) }
-{
-    if object >= LIMIT {
-        return Err(StoreFault::Store);
+    let sql = "SELECT value FROM sha512s WHERE kind = ?1 AND owner = ?2";
+    // With `map_err` no proof would know what a failure leaves of the connection.
+    match connection.query_all(sql, &owner_params(owner)) {
+        Ok(rows) => Ok(only(rows.as_slice())),
+        Err(error) => Err(fault_of(error)),
     }
-    ask(
-        connection,
-        "SELECT file, sha256 FROM files WHERE object = ?1 ORDER BY file",
-        &key_param(object),
-    )
 }

@@ -11,8 +11,7 @@ ghost use Rattle.dep_files.specs.Clauses.{FindsOver};
 ghost use Rattle.dep_files.specs.Sha512s.{IsFileAfter};
 ghost use Rattle.dep_files.specs.Causes.{FailsToFindFile};
 
-use crate::asking::{ask, checked_number_at, key_param};
-use dep_tables::LIMIT;
+use crate::asking::{ask, checked_number_at};
 use dep_types::StoreFault;
 use sqlite::{Alter, Connection, Row};
 
@@ -36,13 +35,10 @@ pub(crate) fn next_file<S: Alter>(
     ensures { FindsOver IsKnown S.Store connection.old connection.new result
         (λ t. IsFileAfter t after) (FailsToFindFile after) }
 {
-    if after >= LIMIT {
-        return Err(StoreFault::Store);
-    }
     let rows = ask(
         connection,
         "SELECT file FROM files WHERE file > ?1 ORDER BY file LIMIT 1",
-        &key_param(after),
+        after,
     )?;
     only(rows.as_slice())
 }

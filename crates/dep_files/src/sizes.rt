@@ -10,8 +10,7 @@ ghost use Rattle.dep_files.specs.Clauses.{FindsOver};
 ghost use Rattle.dep_files.specs.Sizes.{IsSizeRow, IsSizeOf, size_values};
 ghost use Rattle.dep_files.specs.Causes.{FailsToFindSize};
 
-use crate::asking::{ask, checked_number_at, key_param};
-use dep_tables::LIMIT;
+use crate::asking::{ask, checked_number_at};
 use dep_types::StoreFault;
 use sqlite::{Alter, Connection, Row};
 
@@ -55,13 +54,10 @@ pub(crate) fn find_size<S: Alter>(
     ensures { FindsOver IsOurs S.Store connection.old connection.new result
         (λ t. IsSizeOf t file) (FailsToFindSize file) }
 {
-    if file >= LIMIT {
-        return Err(StoreFault::Store);
-    }
     let rows = ask(
         connection,
         "SELECT object, size FROM files WHERE file = ?1",
-        &key_param(file),
+        file,
     )?;
     only(rows.as_slice())
 }

@@ -1,4 +1,4 @@
-use Rattle.std.proofs.Common.{inl}
+use Rattle.std.proofs.Common.{inl, inr}
 use Rattle.sqlite.specs.Held.{state}
 use Rattle.dep_files.proofs.Stills.{shown_reads, stays_shown, stays_refused}
 use Rattle.dep_files.proofs.asking.ask.Goals as goal
@@ -7,7 +7,7 @@ pub returns-in-Ok : goal.returns-in-Ok
 returns-in-Ok g c =
     let old = state g.S.Store c.args.connection.now in
     let new = state g.S.Store c.query_all.new.self in
-    let reported = rw c.in-Ok.is at c.query_all.ensures in
+    let reported = rw (c.key_param.ensures, c.in-Ok.is) at c.query_all.ensures in
     record {
       shows = reported.ok;
       cause = λ clean. tt;
@@ -19,9 +19,9 @@ returns-in-Ok g c =
 
 pub returns-in-Err : goal.returns-in-Err
 returns-in-Err g c =
-    let reported = rw c.in-Err.is at c.query_all.ensures in
+    let reported = rw (c.key_param.ensures, c.in-Err.is) at c.query_all.ensures in
     record {
       shows = λ clean. tt;
-      cause = λ clean. (c.in-Err.error, inl (reported.err clean), c.fault_of.ensures);
+      cause = λ clean. inr (c.in-Err.error, inl (reported.err clean), c.fault_of.ensures);
       reads = record { stays = stays_refused _ _ c.in-Err.error c.requires reported.err reported.mode reported.survives; same = λ clean. tt };
     }

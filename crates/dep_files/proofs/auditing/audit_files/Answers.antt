@@ -1,22 +1,36 @@
-use Rattle.std.proofs.Common.{◌≡◌, ◌∙◌, ◌++◌, ◌+◌, List, [], ◌∷◌, take, length, inl, inr, sym, ap, rules, subst, append-nil}
+use Rattle.std.proofs.Common.{ℕ, ◌≡◌, ◌∙◌, ◌++◌, ◌+◌, List, [], ◌∷◌, take, length, inl, inr, sym, ap, rules, subst, append-nil}
 use Rattle.std.proofs.lemmas.List.Elements.{Contains-get_or}
 use Rattle.std.specs.List.{AllZip, Contains, flat_map}
 use Rattle.std.proofs.lemmas.List.{take_more, take_all}
 use Rattle.std.proofs.lemmas.Grind.{flat_map-append}
 use Rattle.sqlite.specs.Held.{state}
 use Rattle.sqlite.specs.Order.{Row}
+use Rattle.sqlite.specs.State.{State}
+use Rattle.dep_types.specs.declared.store_fault.StoreFault.{StoreFault}
 use Rattle.dep_files.proofs.Results.{same_tables}
 use Rattle.dep_tables.specs.Tables.{Tables, tables_of}
+use Rattle.dep_tables.specs.Texts.{sha256s_of_text}
+use Rattle.dep_files.specs.Causes.{FailsToAskFor, FailsToListSha256s}
+use Rattle.dep_files.specs.Causes.FailsToListSha256s.{no_number, not_reported}
 use Rattle.dep_files.specs.Fixity.{HasFixity, KeepsDamaged, number_if_damaged}
 use Rattle.dep_files.proofs.Stills.{ours_still, over_err, over_ok, over_then, still_same}
 use Rattle.dep_files.proofs.Digests.{one_more}
+use Rattle.dep_files.proofs.KeptFound.{lists_kept}
+use Rattle.dep_files.proofs.Queries.{sha256s_read}
 use Rattle.dep_files.proofs.Reported.{passed_on}
 use Rattle.dep_files.proofs.auditing.audit_files.Goals as goal
+
+not_listed : (old new : State) (object : ℕ) (fault : StoreFault) → FailsToAskFor sha256s_of_text object old new fault → FailsToListSha256s object old new fault
+not_listed old new object fault (inl none) = no_number none.0 none.1
+not_listed old new object fault (inr failed) = not_reported failed
+
+pub ask-requires : goal.ask-requires
+ask-requires g c = sha256s_read
 
 pub files-init : goal.files-init
 files-init g c =
     let reported = c.in_ok-rows.ensures in
-    (over_ok reported.reads, λ clean ours. (c.as_slice-row-items.ensures.value ∙ reported.ok clean ours, ([], tt, c.new-damaged.ensures.items)))
+    (over_ok reported.reads, λ clean ours. (c.as_slice-row-items.ensures.value ∙ lists_kept (state g.S.Store c.args.connection.now) (state g.S.Store c.ask.new.connection) c.args.object _ ours (reported.shows clean), ([], tt, c.new-damaged.ensures.items)))
 
 pub files-preserved : goal.files-preserved
 files-preserved g c =
@@ -66,7 +80,7 @@ returns g c =
 
 -- the files were not listed
 pub returns-in_err-rows : goal.returns-in_err-rows
-returns-in_err-rows g c = rw (passed_on c.from_residual.result c.in_err-rows.field-0.0 c.from_residual.ensures.1) record { audits = λ clean ours. tt; cause = λ clean ours. inl (c.in_err-rows.ensures.cause clean ours); reads = over_err c.in_err-rows.ensures.reads }
+returns-in_err-rows g c = rw (passed_on c.from_residual.result c.in_err-rows.field-0.0 c.from_residual.ensures.1) record { audits = λ clean ours. tt; cause = λ clean ours. inl (not_listed _ _ c.args.object c.in_err-rows.field-0.0 (c.in_err-rows.ensures.cause clean)); reads = over_err c.in_err-rows.ensures.reads }
 
 -- one was not checked
 pub returns-in_err-keep_damaged : goal.returns-in_err-keep_damaged
