@@ -9,7 +9,7 @@ use dep_answers::StoredFile;
 use dep_types::{Outlet, StreamFault};
 
 /// How the content of a file goes out behind the front of a reply.
-#[derive(Clone, Copy, Debug, PartialEq, Eq)]
+#[derive(Clone, Copy)]
 pub enum Contents {
     /// All of it, at once.
     AtOnce,
