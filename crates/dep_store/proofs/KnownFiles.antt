@@ -1,5 +1,5 @@
 -- The file whose content a reply has: that it is there with its size, and what is sent of it then.
-use Rattle.std.proofs.Common.{◌≡◌, ◌≢◌, ◌∙◌, inl, inr, ℕ, List, [], length, Bool, true, false, not, ◌&&◌, Option, Some, None, Result, Ok, IfOk, IsTrue, refl, sym, ap}
+use Rattle.std.proofs.Common.{◌≡◌, ◌≢◌, ◌∙◌, ℕ, List, [], length, Bool, true, false, not, ◌&&◌, Option, Some, None, Result, Ok, IfOk, IsTrue, refl, sym, ap}
 use Rattle.std.specs.Prelude.{IsSome, IfSome}
 use Rattle.std.specs.Option.{option_map_or}
 use Rattle.std.proofs.lemmas.Result.{IfOk-weaker}

@@ -1,5 +1,5 @@
 -- A store that a fault shut: what fails on it, and what stands again once a statement was given back.
-use Rattle.std.proofs.Common.{◌≡◌, ◌∙◌, ℕ, List, [], Bool, true, false, not, Result, Ok, Err, OnOk, IsErr, MatchResult, codes, refl, IsTrue, inl, inr, sym, ap, subst, length, le_of_eq}
+use Rattle.std.proofs.Common.{◌≡◌, ◌∙◌, ℕ, List, [], Result, Ok, Err, OnOk, IsErr, MatchResult, codes, refl, IsTrue, inl, inr, sym, ap, subst, length, le_of_eq}
 use Rattle.std.proofs.lemmas.Result.{IfOk-from_err}
 use Rattle.sqlite.specs.State as db
 use Rattle.sqlite.specs.State.{HasCleanDisk, Survives, IsNotRun, store_error}

@@ -244,9 +244,8 @@ impl<S: Alter> Store<S> {
     {
         check_settled(&self.connection)?;
         self.known = Known::NOTHING;
-        let connection = &mut self.connection;
-        check_open(connection)?;
-        transact(connection, &WriteClock)
+        check_open(&mut self.connection)?;
+        transact(&mut self.connection, &WriteClock)
     }
 
     /// Sends the content of the file of this number, one block at a time.

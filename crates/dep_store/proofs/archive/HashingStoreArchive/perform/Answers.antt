@@ -1,15 +1,12 @@
-use Rattle.std.proofs.Common.{inl, Result, Ok, sym, subst}
-use Rattle.sqlite.specs.Held.{Held, state}
+use Rattle.std.proofs.Common.{inl, Result, Ok}
+use Rattle.sqlite.specs.Held.{state}
 use Rattle.dep_types.specs.declared.store_fault.StoreFault.{StoreFault}
 use Rattle.dep_answers.specs.Performing.{IsReady}
 use Rattle.dep_answers.specs.declared.performed.Performed.{Performed}
 use Rattle.dep_answers.specs.Steps.{operation_step}
 use Rattle.dep_answers.proofs.SegmentsStay.{step_keeps_segments}
 use Rattle.dep_fields.specs.Fit.{AreFit}
-use Rattle.dep_exchange.specs.Archives.{MakesStep, FallsDue, FailsIfShut}
 use Rattle.dep_store.specs.HashingStores.{shown_by}
-use Rattle.dep_store.specs.LogCopies.{has_call}
-use Rattle.dep_store.specs.declared.log_copy.LogCopy.{LogCopy}
 use Rattle.dep_store.proofs.LogLemmas.{note_falls_due}
 use Rattle.dep_store.proofs.KeepingLemmas.{are_running_still, tries_hashed, tries_failed, shut_hashed, fails_failed}
 use Rattle.dep_store.proofs.archive.HashingStoreArchive.perform.Goals as goal
