@@ -1,4 +1,4 @@
-use Rattle.std.proofs.Common.{◌≡◌, ◌∙◌, IfOk, List, Option, [], ◌∷◌, ap, subst, sym}
+use Rattle.std.proofs.Common.{◌∙◌, IfOk, Option, [], ◌∷◌, ap, subst, sym}
 use Rattle.dep_types.specs.Maps.{first_of}
 use Rattle.dep_types.specs.declared.refusal.Refusal.{Refusal}
 use Rattle.dep_decisions.specs.Rules.{content_refusal}

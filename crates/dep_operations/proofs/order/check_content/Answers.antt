@@ -1,4 +1,4 @@
-use Rattle.std.proofs.Common.{◌≡◌, ◌∙◌, IfOk, Option, Some, subst, sym, refl}
+use Rattle.std.proofs.Common.{◌≡◌, ◌∙◌, IfOk, Option, subst, sym, refl}
 use Rattle.std.specs.Prelude.{IfSome}
 use Rattle.dep_types.specs.declared.refusal.Refusal.{Refusal}
 use Rattle.dep_fixity.specs.Fixity.{digests_of}
