@@ -27,30 +27,24 @@ pub enum ConfigurationFault {
 
 impl fmt::Display for ConfigurationFault {
     fn fmt<W: fmt::Write>(&self, f: &mut fmt::Formatter<W>) -> fmt::Result {
-        let text = match self {
-            ConfigurationFault::Malformed => "the configuration is not JSON",
-            ConfigurationFault::NotObject => "the configuration is not an object",
+        match self {
+            ConfigurationFault::Malformed => f.write_str("the configuration is not JSON"),
+            ConfigurationFault::NotObject => f.write_str("the configuration is not an object"),
             ConfigurationFault::Unknown(name) => {
-                return write!(f, "{:?}: there is no field of this name", name.as_str());
+                write!(f, "{:?}: there is no field of this name", name.as_str())
             }
             ConfigurationFault::Repeated(name) => {
-                return write!(f, "{}: the field is given twice", name.as_str());
+                write!(f, "{}: the field is given twice", name.as_str())
             }
-            ConfigurationFault::Missing(field) => return write_wanted(f, *field, "missing; "),
-            ConfigurationFault::Invalid(field) => return write_wanted(f, *field, ""),
-            ConfigurationFault::Memory => "out of memory",
-        };
-        f.write_str(text)
+            ConfigurationFault::Missing(field) => {
+                write!(f, "{}: missing; {}", field.name(), field.wanted())
+            }
+            ConfigurationFault::Invalid(field) => {
+                write!(f, "{}: {}", field.name(), field.wanted())
+            }
+            ConfigurationFault::Memory => f.write_str("out of memory"),
+        }
     }
-}
-
-// Writes the name of a field and what it has to be, with these words between them.
-fn write_wanted<W: fmt::Write>(
-    f: &mut fmt::Formatter<W>,
-    field: ConfigurationField,
-    words: &str,
-) -> fmt::Result {
-    write!(f, "{}: {words}{}", field.name(), field.wanted())
 }
 
 impl fmt::Debug for ConfigurationFault {
