@@ -8,7 +8,7 @@ use Rattle.sqlite.specs.Tree.{Trees}
 use Rattle.sqlite.specs.Effect.{Database, RefusesToRead, RefusesQuery}
 use Rattle.sqlite.specs.Listing.{understood, reads_listing, IsSourceOf}
 use Rattle.sqlite.specs.Clock.{timed}
-use Rattle.sqlite.specs.State.{State, HasCleanDisk, Survives, Fails, HasCause, FailsToQuery, IsNotRun, FailsToShow, IsUnchanged, store_error}
+use Rattle.sqlite.specs.State.{State, HasCleanDisk, Survives, Shown, Fails, HasCause, FailsToQuery, IsNotRun, FailsToShow, IsUnchanged, store_error}
 use Rattle.sqlite.specs.Steps.{FailsToCommit}
 use Rattle.sqlite.specs.Held.{Held, state}
 use Rattle.sqlite.specs.declared.error.Error.{Error}
@@ -35,12 +35,12 @@ use Rattle.dep_migrations.specs.Beside.{LacksFormat}
 use Rattle.dep_schema.specs.OpenTables.{HasKnownVersion}
 use Rattle.dep_schema.specs.Texts.{find_format_text}
 use Rattle.dep_tables.specs.Faults.{fault_for}
-use Rattle.dep_schema.specs.OpenFaults.{open_fault_for, reported_by, ReportsError, ShowsVersion, ShowsNone, FailsToReport, FailsToFind, FailsToFindOrMake, begun, GivesOut, RefusesKnown}
+use Rattle.dep_schema.specs.OpenFaults.{open_fault_for, reported_by, ReportsError, TellsVersion, ShowsVersion, ShowsNone, FailsToReport, FailsToFind, FailsToFindOrMake, begun, GivesOut, RefusesKnown}
 use Rattle.dep_migrations.specs.Faults.{FailsToMake}
 use Rattle.dep_schema.specs.declared.lending.Lent.{Lent}
 use Rattle.dep_schema.specs.declared.opening.OpenFault.{OpenFault}
 use Rattle.dep_schema.specs.declared.opening.OpenFault.TheVariants.{UnknownVersion}
-use Rattle.dep_schema.proofs.Version.{asked, names, Finds, finds_in, none_had, ours_asked, missing_only, named_fault}
+use Rattle.dep_schema.proofs.Version.{asked, names, Finds, finds_in, found_version, none_had, ours_asked, missing_only, named_fault}
 
 pub clean_last : (last new : State) (P : Trees → Type 0) → Survives last new P → HasCleanDisk new → HasCleanDisk last
 clean_last last new P survives clean = omega (arith, clean, survives.clean)
@@ -66,6 +66,22 @@ matched_none P Q o is p = subst (λ x. MatchOption x P Q) is p
 pub match_err : {A E : Type 0} (P : A → Type 0) (Q : E → Type 0) (r : Result A E) (fault : E) → IsErrAnd r (λ e. e ≡ fault) → Q fault → MatchResult r P Q
 match_err P Q (Ok x) fault is q = absurd is
 match_err P Q (Err e) fault is q = subst Q (sym is) q
+
+-- ---- what rows tell of the version
+
+pub version_told : (rows : List Row) (r : Result (Option ℕ) OpenFault) → TellsVersion rows r → IfOk r (λ found. IfSome found IsKnownVersion)
+version_told rows (Ok found) it = subst (λ (o : Option ℕ). IfSome o IsKnownVersion) (sym it.1) it.2
+version_told rows (Err fault) it = tt
+
+module _ (old new : State) (rows : List Row) (shown : Shown find_format_text [] old new rows) where
+  pub known_told : (r : Result (Option ℕ) OpenFault) → TellsVersion rows r → IsKnown old
+      → MatchResult r (λ found. (version : ℕ) × (found ≡ Some version) × HasVersion version (tables_of old)) (λ fault. fault ≡ UnknownVersion → HasKnownVersion (tables_of old) → ⊥)
+  known_told (Ok found) it known = (it.0, it.1, (found_version it.0 old new rows known shown).0 it.3)
+  known_told (Err fault) it known = λ said. none_had old new rows known shown it.1
+
+  pub finds_told : (r : Result (Option ℕ) OpenFault) → TellsVersion rows r → MatchResult r (λ found. MatchOption found (ShowsNone old new) (ShowsVersion old new)) (FailsToFind old new)
+  finds_told (Ok found) it = subst (λ (o : Option ℕ). MatchOption o (ShowsNone old new) (ShowsVersion old new)) (sym it.1) (rows, shown, it.3)
+  finds_told (Err fault) it = inl (it.0, inl (rows, shown, it.1))
 
 -- ---- an error of the query for the version
 

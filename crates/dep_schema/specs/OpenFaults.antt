@@ -1,5 +1,5 @@
 -- Why a database is not opened: by what the query for its version shows, or by a statement that fails.
-use Rattle.std.specs.Prelude.{◌≡◌, ◌≢◌, ◌⊎◌, ℕ, ℤ, pos, List, [], ◌∷◌, true, Option, None, Result, Ok, Err, IsSome}
+use Rattle.std.specs.Prelude.{◌≡◌, ◌≢◌, ◌⊎◌, ℕ, ℤ, pos, List, [], ◌∷◌, true, Option, None, Some, Result, Ok, Err, IsSome, MatchResult}
 use Rattle.sqlite.specs.Order.{Row, column}
 use Rattle.sqlite.specs.declared.types.Value.TheVariants.{Int}
 use Rattle.sqlite.specs.declared.error.Error.{Error}
@@ -52,6 +52,13 @@ AreVersion version rows = (found : Row) × (rows ≡ found ∷ [])
 -- the version is one that is known
 abbrev pub AreKnownVersion : List Row → Type 0
 AreKnownVersion rows = (version : ℕ) × IsKnownVersion version × AreVersion (pos version) rows
+
+-- what is returned of the version by what the query for it shows
+abbrev pub TellsVersion : List Row → Result (Option ℕ) OpenFault → Type 0
+TellsVersion rows result = MatchResult result
+    (λ found. (version : ℕ) × (found ≡ Some version) × IsKnownVersion version
+    × AreVersion (pos version) rows)
+    (λ fault. (fault ≡ open_fault.UnknownVersion) × (AreKnownVersion rows → ⊥))
 
 module _ (old new : State) where
   -- the query for the version shows this one

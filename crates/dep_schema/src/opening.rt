@@ -13,7 +13,7 @@ ghost use Rattle.dep_migrations.specs.Beside.{LacksFormat, AreFree};
 ghost use Rattle.dep_schema.specs.Making.{FindsNone, FindsKnown, FindsShown, AddsFirst, LeavesKnown, FindsOrMakes};
 ghost use Rattle.dep_migrations.specs.Making.{MakesFirst};
 ghost use Rattle.dep_schema.specs.Opening.{RepresentsKnown, RepresentsMade, RepresentsFresh, RepresentsFound, RepresentsAdded, WasOpen, SurvivesOpen, OpensBy, RefusesBy};
-ghost use Rattle.dep_schema.specs.OpenFaults.{open_fault_number, reported_by, AreVersion, ShowsOrMakes, begun, FailsToOpen, RefusesKnown};
+ghost use Rattle.dep_schema.specs.OpenFaults.{open_fault_number, reported_by, AreVersion, TellsVersion, ShowsOrMakes, begun, FailsToOpen, RefusesKnown};
 
 use crate::committing::commit;
 use crate::lending::Lent;
@@ -123,6 +123,19 @@ fn reported_by(error: Error) -> Result<Option<u64>, OpenFault>
     }
 }
 
+/// The version that these rows of the table `format` tell. It has to be 1 or 2.
+fn version_of(rows: &[Row]) -> Result<Option<u64>, OpenFault>
+    ensures { TellsVersion rows.now result }
+{
+    if are_known(rows, 2) {
+        Ok(Some(2))
+    } else if are_known(rows, 1) {
+        Ok(Some(1))
+    } else {
+        Err(OpenFault::UnknownVersion)
+    }
+}
+
 /// Returns the version in the table `format`, if there is that table. It has to be 1 or 2.
 fn find_format<S: Alter>(tx: &mut Transaction<'_, S>) -> Result<Option<u64>, OpenFault>
     ensures empty { FindsNone (state S.Store tx.old.conn.now) (state S.Store tx.new.conn.now) result
@@ -140,15 +153,7 @@ fn find_format<S: Alter>(tx: &mut Transaction<'_, S>) -> Result<Option<u64>, Ope
     ensures stays { StaysOn S.Store tx.old.conn tx.new.conn result }
 {
     match tx.query_all("SELECT id, version FROM format", &[]) {
-        Ok(rows) => {
-            if are_known(rows.as_slice(), 2) {
-                Ok(Some(2))
-            } else if are_known(rows.as_slice(), 1) {
-                Ok(Some(1))
-            } else {
-                Err(OpenFault::UnknownVersion)
-            }
-        }
+        Ok(rows) => version_of(rows.as_slice()),
         Err(error) => reported_by(error),
     }
 }

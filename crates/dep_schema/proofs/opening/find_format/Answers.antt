@@ -1,81 +1,34 @@
-use Rattle.std.proofs.Common.{pos, inl, refl, subst, sym}
-use Rattle.std.proofs.lemmas.Bool.{both_ways}
+use Rattle.std.proofs.Common.{subst}
 use Rattle.sqlite.specs.Held.{state}
+use Rattle.dep_tables.proofs.Results.{if_ok}
 use Rattle.dep_schema.specs.Texts.{find_format_text}
-use Rattle.dep_schema.specs.OpenFaults.{AreVersion}
+use Rattle.dep_schema.specs.OpenFaults.{TellsVersion}
 use Rattle.dep_schema.proofs.Asking.{shown_stays, reports_stay}
-use Rattle.dep_schema.proofs.Version.{found_version, none_known, none_had, find_stays, none_shown, empty_lacks}
-use Rattle.dep_schema.proofs.Refusing.{lacking_reported, known_reported, version_reported, unchanged_reported, finds_reported}
+use Rattle.dep_schema.proofs.Version.{find_stays, none_shown, empty_lacks}
+use Rattle.dep_schema.proofs.Refusing.{version_told, known_told, finds_told, lacking_reported, known_reported, version_reported, unchanged_reported, finds_reported}
 use Rattle.dep_schema.proofs.opening.find_format.Goals as goal
 
-pub returns-then-are_known-clause-empty : goal.returns-then-are_known-clause-empty
-returns-then-are_known-clause-empty g c clean empty = absurd (none_shown (state g.S.Store c.args.tx.now.conn.now) (state g.S.Store c.query_all.new.self.conn.now) _ (empty_lacks _ empty) (c.in-Ok.ensures.ok clean))
-
-pub returns-then-are_known-clause-ours : goal.returns-then-are_known-clause-ours
-returns-then-are_known-clause-ours g c clean known =
-    (2, refl, (found_version 2 (state g.S.Store c.args.tx.now.conn.now) (state g.S.Store c.query_all.new.self.conn.now) _ known (c.in-Ok.ensures.ok clean)).0 (subst (AreVersion (pos 2)) c.as_slice.ensures.value (c.are_known.ensures.0 c.if-are_known.true)))
-
-pub returns-then-are_known-clause-same : goal.returns-then-are_known-clause-same
-returns-then-are_known-clause-same g c clean = find_stays (state g.S.Store c.args.tx.now.conn.now) (state g.S.Store c.query_all.new.self.conn.now) _ (c.in-Ok.ensures.ok clean)
-
-pub returns-then-are_known-clause-lacking : goal.returns-then-are_known-clause-lacking
-returns-then-are_known-clause-lacking g c clean lacks = absurd (none_shown (state g.S.Store c.args.tx.now.conn.now) (state g.S.Store c.query_all.new.self.conn.now) _ lacks (c.in-Ok.ensures.ok clean))
-
-pub returns-then-are_known-clause-reported : goal.returns-then-are_known-clause-reported
-returns-then-are_known-clause-reported g c clean = (_, c.in-Ok.ensures.ok clean, subst (AreVersion (pos 2)) c.as_slice.ensures.value (c.are_known.ensures.0 c.if-are_known.true))
-
-pub returns-then-are_known-clause-stays : goal.returns-then-are_known-clause-stays
-returns-then-are_known-clause-stays g c = shown_stays g.S.Store c.args.tx.now.conn c.query_all.new.self.conn c.query_all.ensures.same_reference c.query_all.ensures.survives find_format_text _ _ c.in-Ok.ensures.ok
-
-pub returns-then-are_known-2-clause-empty : goal.returns-then-are_known-2-clause-empty
-returns-then-are_known-2-clause-empty g c clean empty = absurd (none_shown (state g.S.Store c.args.tx.now.conn.now) (state g.S.Store c.query_all.new.self.conn.now) _ (empty_lacks _ empty) (c.in-Ok.ensures.ok clean))
-
-pub returns-then-are_known-2-clause-ours : goal.returns-then-are_known-2-clause-ours
-returns-then-are_known-2-clause-ours g c clean known =
-    (1, refl, (found_version 1 (state g.S.Store c.args.tx.now.conn.now) (state g.S.Store c.query_all.new.self.conn.now) _ known (c.in-Ok.ensures.ok clean)).0 (subst (AreVersion (pos 1)) c.as_slice-else-are_known.ensures.value (c.are_known-else-are_known.ensures.0 c.if-are_known-2.true)))
-
-pub returns-then-are_known-2-clause-same : goal.returns-then-are_known-2-clause-same
-returns-then-are_known-2-clause-same g c clean = find_stays (state g.S.Store c.args.tx.now.conn.now) (state g.S.Store c.query_all.new.self.conn.now) _ (c.in-Ok.ensures.ok clean)
-
-pub returns-then-are_known-2-clause-lacking : goal.returns-then-are_known-2-clause-lacking
-returns-then-are_known-2-clause-lacking g c clean lacks = absurd (none_shown (state g.S.Store c.args.tx.now.conn.now) (state g.S.Store c.query_all.new.self.conn.now) _ lacks (c.in-Ok.ensures.ok clean))
-
-pub returns-then-are_known-2-clause-reported : goal.returns-then-are_known-2-clause-reported
-returns-then-are_known-2-clause-reported g c clean = (_, c.in-Ok.ensures.ok clean, subst (AreVersion (pos 1)) c.as_slice-else-are_known.ensures.value (c.are_known-else-are_known.ensures.0 c.if-are_known-2.true))
-
-pub returns-then-are_known-2-clause-stays : goal.returns-then-are_known-2-clause-stays
-returns-then-are_known-2-clause-stays g c = shown_stays g.S.Store c.args.tx.now.conn c.query_all.new.self.conn c.query_all.ensures.same_reference c.query_all.ensures.survives find_format_text _ _ c.in-Ok.ensures.ok
-
-pub returns-in-Ok-clause-empty : goal.returns-in-Ok-clause-empty
-returns-in-Ok-clause-empty g c clean empty said = none_shown (state g.S.Store c.args.tx.now.conn.now) (state g.S.Store c.query_all.new.self.conn.now) _ (empty_lacks _ empty) (c.in-Ok.ensures.ok clean)
-
-pub returns-in-Ok-clause-ours : goal.returns-in-Ok-clause-ours
-returns-in-Ok-clause-ours g c clean known said =
-    none_had (state g.S.Store c.args.tx.now.conn.now) (state g.S.Store c.query_all.new.self.conn.now) _ known (c.in-Ok.ensures.ok clean)
-    (none_known _ (λ shown. both_ways c.are_known.result c.if-are_known.false (c.are_known.ensures.1 (subst (AreVersion (pos 2)) (sym c.as_slice.ensures.value) shown)))
-    (λ shown. both_ways c.are_known-else-are_known.result c.if-are_known-2.false (c.are_known-else-are_known.ensures.1 (subst (AreVersion (pos 1)) (sym c.as_slice-else-are_known.ensures.value) shown))))
-
-pub returns-in-Ok-clause-lacking : goal.returns-in-Ok-clause-lacking
-returns-in-Ok-clause-lacking g c clean lacks said = none_shown (state g.S.Store c.args.tx.now.conn.now) (state g.S.Store c.query_all.new.self.conn.now) _ lacks (c.in-Ok.ensures.ok clean)
-
-pub returns-in-Ok-clause-reported : goal.returns-in-Ok-clause-reported
-returns-in-Ok-clause-reported g c clean =
-    inl (
-      refl,
-      inl (
-        _,
-        c.in-Ok.ensures.ok clean,
-        none_known _ (λ shown. both_ways c.are_known.result c.if-are_known.false (c.are_known.ensures.1 (subst (AreVersion (pos 2)) (sym c.as_slice.ensures.value) shown)))
-            (λ shown. both_ways c.are_known-else-are_known.result c.if-are_known-2.false (c.are_known-else-are_known.ensures.1 (subst (AreVersion (pos 1)) (sym c.as_slice-else-are_known.ensures.value) shown))),
-      ),
-    )
-
-pub returns-in-Ok-clause-stays : goal.returns-in-Ok-clause-stays
-returns-in-Ok-clause-stays g c = shown_stays g.S.Store c.args.tx.now.conn c.query_all.new.self.conn c.query_all.ensures.same_reference c.query_all.ensures.survives find_format_text _ _ c.in-Ok.ensures.ok
+-- the rows tell the version, or that it is none of ours
+pub returns-in-Ok : goal.returns-in-Ok
+returns-in-Ok g c =
+    let old = state g.S.Store c.args.tx.now.conn.now in
+    let new = state g.S.Store c.query_all.new.self.conn.now in
+    let shown = c.in-Ok.ensures.ok in
+    let r = c.version_of.result in
+    let told = subst (λ rows. TellsVersion rows r) c.as_slice.ensures.value c.version_of.ensures in
+    record {
+      empty = λ clean empty. absurd (none_shown old new _ (empty_lacks _ empty) (shown clean));
+      ours = λ clean known. known_told old new _ (shown clean) r told known;
+      known = version_told _ r told;
+      lacking = λ clean lacks. absurd (none_shown old new _ lacks (shown clean));
+      same = λ clean. if_ok r (find_stays old new _ (shown clean));
+      reported = λ clean. finds_told old new _ (shown clean) r told;
+      stays = shown_stays g.S.Store c.args.tx.now.conn c.query_all.new.self.conn c.query_all.ensures.same_reference c.query_all.ensures.survives find_format_text _ _ shown;
+    }
 
 -- an error tells that there is no `format`, or a fault
-pub returns : goal.returns
-returns g c =
+pub returns-in-Err : goal.returns-in-Err
+returns-in-Err g c =
     let old = state g.S.Store c.args.tx.now.conn.now in
     let new = state g.S.Store c.query_all.new.self.conn.now in
     let failed = c.in-Err.ensures.err in

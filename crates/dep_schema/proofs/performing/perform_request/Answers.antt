@@ -1,4 +1,4 @@
-use Rattle.std.proofs.Common.{rules, not, ◌≡◌, ◌∙◌, refl, sym, ap, subst}
+use Rattle.std.proofs.Common.{false, not, ◌≡◌, ◌∙◌, refl, sym, ap, subst}
 use Rattle.std.proofs.lemmas.Result.{IfOk-from_err}
 use Rattle.sqlite.proofs.StateLemmas.{clean_if_open}
 use Rattle.dep_schema.proofs.Transacting.{gave_up, none_then, on_connection, still_on, works_on}
@@ -82,6 +82,8 @@ returns g c =
       back = it.back;
     }
 
--- (a wrong body is refused here by one search)
+-- (a wrong body is refused here without a search)
 pub check_open-requires : goal.check_open-requires
-check_open-requires g c = search rules
+check_open-requires g c =
+    let same : c.give_back.new.tx.0 ≡ c.connection-2-1.given.0 = sym (c.connection-2-1.given.1 (on_connection g.S.Store c.in_ok-performed.ensures.stays c.transaction-tx.ensures.same_reference)) in
+    record { settled = subst (λ (h : Held g.row.S.Denot). (state g.S.Store h).in_transaction ≡ false) same c.give_back.ensures.ended }
