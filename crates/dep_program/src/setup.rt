@@ -51,8 +51,6 @@ fn base_text(alloc: Global, port: u64) -> Result<String, AllocError>
     if port == DEFAULT_PORT {
         return String::from_str(alloc, "http://127.0.0.1");
     }
-    let mut text = String::from_str(alloc, "http://127.0.0.1:")?;
     let mut digits = Buffer::new();
-    text.push_str(digits.format(port))?;
-    Ok(text)
+    ["http://127.0.0.1:", digits.format(port)].concat(alloc)
 }
