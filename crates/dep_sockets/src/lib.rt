@@ -6,6 +6,7 @@ mod file_spool;
 mod hosting;
 mod last_look;
 mod readiness;
+mod round_clock;
 mod round_moment;
 mod socket;
 mod sockets;

@@ -3,9 +3,21 @@ ghost use Rattle.std.specs.Prelude.{◌≡◌, ◌++◌, IfOk, OnOk};
 ghost use Rattle.mio.specs.Events.{items};
 ghost use Rattle.dep_sockets.specs.Readiness.{ready_of, readies_of, has_listener};
 
+use crate::sockets::SocketFault;
+use dep_host::MOST_SEATS;
 use mio::event::Event;
-use mio::{Events, Token};
-use std::alloc::AllocError;
+use mio::net::{TcpListener, TcpStream};
+use mio::{Events, Interest, Poll, Token};
+use std::alloc::{AllocError, Global};
+use std::io;
+use std::net::{Net, SocketAddr};
+use std::time::Duration;
+
+/// The token of the listener; those of connections are their places, which are smaller.
+const LISTENER: Token = Token(MOST_SEATS);
+
+/// How many sockets can be ready at once: those of all connections and the listener.
+const MOST_READY: usize = MOST_SEATS + 1;
 
 /// A connection whose socket may be ready.
 #[derive(Clone, Copy)]
@@ -16,13 +28,61 @@ pub(crate) struct Ready {
     pub(crate) is_writable: bool,
 }
 
+/// The sockets of which the system says when they are ready, and what it said of connections and wasn't taken yet.
+#[derive(Drop)]
+pub(crate) struct Watch {
+    poll: Poll,
+    polled: Events,
+    ready: Vec<Ready>,
+}
+
+impl Watch {
+    /// A watch over no socket yet, with room for what is said of all of them at once.
+    pub fn new<R: Net>(alloc: Global, rt: &R) -> io::Result<Watch> {
+        let polled = Events::with_capacity(alloc, MOST_READY)?;
+        let ready = Vec::with_capacity(alloc, MOST_READY)?;
+        Ok(Watch {
+            poll: Poll::new(rt)?,
+            polled,
+            ready,
+        })
+    }
+
+    /// Listens at the address, and watches whether a client waits there.
+    pub fn listener_at<R: Net>(&self, rt: &R, address: SocketAddr) -> io::Result<TcpListener> {
+        let mut listener = TcpListener::bind(rt, address)?;
+        let registry = self.poll.registry();
+        registry.register(&mut listener, LISTENER, Interest::READABLE)?;
+        Ok(listener)
+    }
+
+    /// Watches the socket of the connection at a place too. It returns whether it can.
+    pub fn add(&self, stream: &mut TcpStream, at: usize) -> bool {
+        let interest = Interest::READABLE | Interest::WRITABLE;
+        let registry = self.poll.registry();
+        registry.register(stream, Token(at), interest).is_ok()
+    }
+
+    /// Waits until a socket is ready, for so long at most. It returns whether the listener is.
+    pub fn wait(&mut self, nap: Duration) -> Result<bool, SocketFault> {
+        if self.poll.poll(&mut self.polled, Some(nap)).is_err() {
+            return Err(SocketFault::Poll);
+        }
+        match note_all(&self.polled, LISTENER, &mut self.ready) {
+            Ok(is_waited_for) => Ok(is_waited_for),
+            Err(AllocError) => Err(SocketFault::Memory),
+        }
+    }
+
+    /// Takes a connection that is ready, if any is left.
+    pub fn pop(&mut self) -> Option<Ready> {
+        self.ready.pop()
+    }
+}
+
 /// Notes the connections that are ready behind those that were noted. It returns whether the listener is
 /// among them.
-pub(crate) fn note_all(
-    polled: &Events,
-    listener: Token,
-    ready: &mut Vec<Ready>,
-) -> Result<bool, AllocError>
+fn note_all(polled: &Events, listener: Token, ready: &mut Vec<Ready>) -> Result<bool, AllocError>
     ensures noted { OnOk result
         (ready.new.items ≡ ready.old.items ++ readies_of listener.0 (items polled.now)) }
     ensures reported { IfOk result (λ reported. reported ≡ has_listener listener.0 (items polled.now)) }

@@ -2,31 +2,22 @@
 
 use crate::acceptor::Entrance;
 use crate::file_spool::FileSpool;
-use crate::last_look::LastLook;
-use crate::readiness::{Ready, note_all};
-use crate::round_moment::RoundMoment;
+use crate::readiness::Watch;
+use crate::round_clock::RoundClock;
 use crate::socket::{SocketSink, SocketSource, halves};
 use crate::spools::Spools;
 use crate::stop_file::StopFile;
-use dep_host::{Client, Event, Events, MOST_SEATS, Time};
+use dep_host::{Client, Event, Events, MOST_SEATS};
 use dep_outbox::Wire;
-use dep_program::moment_of;
 use mio::net::{TcpListener, TcpStream};
-use mio::{Interest, Poll, Token};
 use std::alloc::{AllocError, Global};
 use std::error::Error;
 use std::fs::Files;
 use std::io::ErrorKind;
 use std::net::{Net, SocketAddr};
 use std::rc::Rc;
-use std::time::{Clock, Duration, Instant, SystemTime};
+use std::time::{Clock, Duration, Instant};
 use std::{fmt, io};
-
-/// The token of the listener; those of connections are their places, which are smaller.
-const LISTENER: Token = Token(MOST_SEATS);
-
-/// How many sockets can be ready at once: those of all connections and the listener.
-const MOST_READY: usize = MOST_SEATS + 1;
 
 /// How many seconds it sleeps at most, so that connections that are silent for too long are closed.
 const NAP: u64 = 1;
@@ -69,11 +60,8 @@ enum EventKind {
 #[derive(Drop)]
 pub struct Sockets<'a, R: Files> {
     alloc: Global,
-    rt: &'a R,
     spools: &'a Spools<'a, R>,
-    poll: Poll,
-    polled: mio::Events,
-    ready: Vec<Ready>,
+    watch: Watch,
     /// It is closed once it was told to stop, so that who comes then is rejected by the system.
     listener: Option<TcpListener>,
     stage: EventKind,
@@ -84,12 +72,7 @@ pub struct Sockets<'a, R: Files> {
     stop: StopFile<'a, R>,
     /// Each open connection owns it too.
     open: Rc<()>,
-    start: Instant,
-    /// How long after the start the last round began.
-    begun: Duration,
-    /// When the system was asked last which sockets are ready.
-    look: LastLook,
-    moment: RoundMoment,
+    clock: RoundClock<'a, R>,
     pub(crate) fault: Option<SocketFault>,
     has_ended: bool,
 }
@@ -103,25 +86,20 @@ impl<'a, R: Files + Net + Clock> Sockets<'a, R> {
         entrance: Entrance<'a>,
     ) -> io::Result<Sockets<'a, R>> {
         let start = Instant::now(rt)?;
-        let (poll, listener) = listener_at(rt, entrance.address)?;
-        let (polled, ready, open) = room(alloc)?;
+        let open = Rc::new(alloc, ())?;
+        let watch = Watch::new(alloc, rt)?;
+        let listener = watch.listener_at(rt, entrance.address)?;
         Ok(Sockets {
             alloc,
-            rt,
             spools,
-            poll,
-            polled,
-            ready,
+            watch,
             listener: Some(listener),
             stage: EventKind::LettingIn(0),
             is_waited_for: true,
             remaining: entrance.clients,
             stop: StopFile::new(rt, entrance.stop_file),
             open,
-            start,
-            begun: Duration::from_secs(0),
-            look: LastLook::new(),
-            moment: RoundMoment::new(),
+            clock: RoundClock::new(rt, start),
             fault: None,
             has_ended: false,
         })
@@ -141,32 +119,16 @@ impl<'a, R: Files + Net + Clock> Sockets<'a, R> {
         }
     }
 
-    /// How long after the start it is, which never goes back.
-    fn elapsed(&self) -> Duration {
-        match self.start.elapsed(self.rt) {
-            Ok(elapsed) => elapsed.max(self.begun),
-            Err(_) => self.begun,
-        }
-    }
-
     /// Waits until a socket is ready, or only looks where something is to be done, and not even that
     /// where it has just looked.
     fn wait(&mut self, is_busy: bool) -> Result<(), SocketFault> {
-        let elapsed = self.elapsed();
-        let took = elapsed.saturating_sub(self.begun);
-        self.moment.note(took.as_millis());
-        if is_busy && self.look.serves(elapsed.as_micros()) {
+        if self.clock.serves_next(is_busy) {
             return Ok(());
         }
         let nap = Duration::from_secs(if is_busy { 0 } else { NAP });
-        if self.poll.poll(&mut self.polled, Some(nap)).is_err() {
-            return Err(SocketFault::Poll);
-        }
-        let Ok(is_waited_for) = note_all(&self.polled, LISTENER, &mut self.ready) else {
-            return Err(SocketFault::Memory);
-        };
+        let is_waited_for = self.watch.wait(nap)?;
         self.is_waited_for |= is_waited_for;
-        self.look = LastLook::at(self.elapsed().as_micros());
+        self.clock.note_look();
         Ok(())
     }
 
@@ -192,9 +154,7 @@ impl<'a, R: Files + Net + Clock> Sockets<'a, R> {
     ) -> Option<SocketClient<'a, R>> {
         // Else a short content would wait until its client has acknowledged the head.
         let _ = stream.set_nodelay(true);
-        let interest = Interest::READABLE | Interest::WRITABLE;
-        let registry = self.poll.registry();
-        if registry.register(&mut stream, Token(at), interest).is_err() {
+        if !self.watch.add(&mut stream, at) {
             return None;
         }
         match halves(self.alloc, stream, &self.open) {
@@ -225,16 +185,6 @@ impl<'a, R: Files + Net + Clock> Sockets<'a, R> {
         }
         None
     }
-
-    /// The time, of which neither part goes by the other.
-    fn time(&mut self) -> Time {
-        self.begun = self.elapsed();
-        let now = moment_of(SystemTime::now(self.rt));
-        Time {
-            moment: self.moment.next(now),
-            second: self.begun.as_secs(),
-        }
-    }
 }
 
 impl<'a, R: Files + Net + Clock> Events<SocketSource, SocketSink, FileSpool<'a, R>>
@@ -249,7 +199,7 @@ impl<'a, R: Files + Net + Clock> Events<SocketSource, SocketSink, FileSpool<'a, 
         is_busy: bool,
     ) -> Event<SocketSource, SocketSink, FileSpool<'a, R>> {
         if let EventKind::LettingIn(count) = self.stage {
-            let second = self.elapsed().as_secs();
+            let second = self.clock.elapsed().as_secs();
             if self.stop.reports(second) {
                 drop(self.listener.take());
                 return Event::Stop(second);
@@ -263,7 +213,7 @@ impl<'a, R: Files + Net + Clock> Events<SocketSource, SocketSink, FileSpool<'a, 
             }
             self.stage = EventKind::Reporting;
         }
-        match self.ready.pop() {
+        match self.watch.pop() {
             Some(ready) => Event::Ready {
                 at: ready.at,
                 is_readable: ready.is_readable,
@@ -271,24 +221,8 @@ impl<'a, R: Files + Net + Clock> Events<SocketSource, SocketSink, FileSpool<'a, 
             },
             None => {
                 self.stage = EventKind::LettingIn(0);
-                Event::Round(self.time())
+                Event::Round(self.clock.begin_round())
             }
         }
     }
-}
-
-/// A listener at the address, and a poll that says of it that a client waits.
-fn listener_at<R: Net>(rt: &R, address: SocketAddr) -> io::Result<(Poll, TcpListener)> {
-    let poll = Poll::new(rt)?;
-    let mut listener = TcpListener::bind(rt, address)?;
-    poll.registry()
-        .register(&mut listener, LISTENER, Interest::READABLE)?;
-    Ok((poll, listener))
-}
-
-/// Room for what the poll says of all sockets at once, and the first owner of what each connection owns too.
-fn room(alloc: Global) -> Result<(mio::Events, Vec<Ready>, Rc<()>), AllocError> {
-    let polled = mio::Events::with_capacity(alloc, MOST_READY)?;
-    let ready = Vec::with_capacity(alloc, MOST_READY)?;
-    Ok((polled, ready, Rc::new(alloc, ())?))
 }
