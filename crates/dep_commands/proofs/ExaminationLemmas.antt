@@ -12,7 +12,6 @@ use Rattle.dep_schema.specs.OpenTables.{Holds, HoldsOlder, HoldsNone, StaysFile}
 use Rattle.dep_migrations.specs.FirstTables.{first_tables}
 use Rattle.dep_schema.specs.States.{Represents, IsLeftAs, Leaves}
 use Rattle.dep_commands.specs.Audits.{Audits, IsBegun, object_rows}
-use Rattle.dep_schema.proofs.Transacting.{IsSettled, leaves_as_was}
 use Rattle.dep_schema.proofs.Version.{not_older}
 use Rattle.dep_store.proofs.Opened.{first_means, version_is}
 use Rattle.dep_store.specs.Migrating.{IsUpgraded, OpensOlder}
@@ -36,7 +35,7 @@ none_begun t = record {
 }
 
 -- no folder was filled
-unfilled : (s : State) (object : ℕ) (kind : ErrorKind) → ExportsInto s object [] (without_folder kind)
+pub unfilled : (s : State) (object : ℕ) (kind : ErrorKind) → ExportsInto s object [] (without_folder kind)
 unfilled s object OutOfMemory = inl (inl refl)
 unfilled s object _ = inr (refl, refl)
 
@@ -102,12 +101,3 @@ module _ (given mid new : db.State) (clean : IsTrue new.is_open → HasCleanDisk
     found = λ is_honest s left. gives is_honest s (found (honest is_honest) s left);
     stays = inl (kept_still given mid new clean honest fresh found still stop);
   }
-
--- there was no folder to fill
-pub exports_nothing : (given mid : db.State) → (IsTrue mid.is_open → HasCleanDisk mid) → (IsTrue mid.is_open → IsSettled mid)
-    → (HasCleanDisk mid → HoldsNone given.now.trees → Represents mid empty_state)
-    → (HasCleanDisk mid → (s : State) → IsLeftAs given.now.trees s → Represents mid s)
-    → (object : ℕ) (kind : ErrorKind) → ExportsDatabase given mid object (without_folder kind)
-exports_nothing given mid clean settled fresh found object kind =
-    exports_into given mid mid clean (λ honest. honest) fresh found object [] (without_folder kind)
-    (λ is_honest s at. unfilled s object kind) (λ is_open s at. at) (λ is_honest s at. leaves_as_was mid s (settled at.represents.is_open) at)

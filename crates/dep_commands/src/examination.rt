@@ -4,10 +4,12 @@ ghost use Rattle.std.specs.Io.KnownBytes.{Appends};
 ghost use Rattle.sqlite.specs.Held.{state};
 ghost use Rattle.sqlite.specs.State.{HasCleanDisk};
 ghost use Rattle.dep_types.specs.Writing.{HasRisen};
-ghost use Rattle.dep_commands.specs.Examinations.{AuditsDatabase, ExportsDatabase};
+ghost use Rattle.dep_bag.specs.Source.{OfEachState, StandsStill};
+ghost use Rattle.dep_commands.specs.Examinations.{AuditsDatabase, ExportsDatabase, ExportsInto};
 
 use crate::exporting::export_object;
 use crate::reporting::audit_all;
+use dep_bag::BagSource;
 use dep_files::Watch;
 use dep_program::{Folder, FolderSink, Outcome, without_folder};
 use dep_store::Store;
@@ -55,15 +57,25 @@ pub fn export_database<S: Alter, P: Watch>(
         → IsTrue (state S.Store connection).is_open }
 {
     match Store::open(rt.alloc(), connection, watch) {
-        // The folder is made before the object is looked up.
-        Ok(mut store) => match Folder::new(rt, folder) {
-            Ok(folder) => {
-                let mut sink = FolderSink::new(folder);
-                let outcome = export_object(rt.alloc(), &mut store, object, &mut sink);
-                (outcome, store.close())
-            }
-            Err(error) => (without_folder(error.kind()), store.close()),
-        },
+        Ok(mut store) => {
+            let outcome = export_into(rt, &mut store, object, folder);
+            (outcome, store.close())
+        }
         Err((_, connection)) => (Outcome::StoreFault, connection),
+    }
+}
+
+/// Makes the folder, before the object is looked up, and fills it with the object's bag.
+fn export_into<S: BagSource>(rt: &HostRuntime, source: &mut S, object: u64, folder: &str) -> Outcome
+    ensures gives { (given : List ℕ) × OfEachState (S.condition source.old) (S.condition source.new)
+        (λ s. ExportsInto s object given result) }
+    ensures still { StandsStill (S.condition source.old) (S.condition source.new) }
+{
+    match Folder::new(rt, folder) {
+        Ok(folder) => {
+            let mut sink = FolderSink::new(folder);
+            export_object(rt.alloc(), source, object, &mut sink)
+        }
+        Err(error) => without_folder(error.kind()),
     }
 }

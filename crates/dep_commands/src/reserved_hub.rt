@@ -2,11 +2,13 @@
 ghost use Rattle.std.specs.Prelude.{◌≡◌, false, IfOk, IfErr, IsTrue};
 ghost use Rattle.sqlite.specs.Held.{state};
 ghost use Rattle.dep_types.specs.Config.{IsChecked};
+ghost use Rattle.dep_hub.specs.Representing.{GoesOnFrom};
 ghost use Rattle.dep_store.specs.Migrating.{Keeps};
 ghost use Rattle.dep_commands.specs.Starting.{IsGivenOrStore, IsOpened, OpeningLeaves, RefusesConfig};
 ghost use Rattle.dep_commands.specs.Reserved.{condition_of};
 
 use crate::starting::{StartFault, check_config};
+use dep_exchange::Archive;
 use dep_hub::{Hub, HubFault};
 use dep_reserve::{Reserve, ReservedArchive};
 use dep_schema::OpenFault;
@@ -45,20 +47,35 @@ pub fn open_reserved_hub<S: Alter, R: Reserve + Drop>(
         return Err((StartFault::Hub(fault), connection));
     }
     match Store::open(alloc, connection, &mut Unwatched) {
-        Ok(store) => {
-            let archive = ReservedArchive::new(HashingStore::new(alloc, store), reserve);
-            match Hub::new(alloc, config, archive) {
-                Ok(hub) => Ok(hub),
-                Err((fault, archive)) => {
-                    let connection = archive.into_archive().close();
-                    Err((StartFault::Hub(fault), connection))
-                }
-            }
-        }
+        Ok(store) => match hub_over(alloc, config, HashingStore::new(alloc, store), reserve) {
+            Ok(hub) => Ok(hub),
+            Err((fault, archive)) => Err((StartFault::Hub(fault), archive.close())),
+        },
         Err((fault, connection)) => {
             drop(config);
             drop(reserve);
             Err((StartFault::Open(fault), connection))
         }
+    }
+}
+
+// The archive is any one here, since each call over a database is dear to prove.
+/// A hub over the archive with the reserve, if there is one, without connections. A refusal hands the archive back.
+fn hub_over<A: Archive, R: Reserve + Drop>(
+    alloc: Global,
+    config: Config,
+    archive: A,
+    reserve: Option<R>,
+) -> Result<Hub<ReservedArchive<A, R>>, (HubFault, A)>
+    ensures configured { IfOk result (λ hub. hub.config ≡ config) }
+    ensures checked { IfOk result (λ _. IsChecked config) }
+    ensures kept { IfOk result (λ hub. hub.store.archive ≡ archive) }
+    ensures again { IfOk result (λ hub. GoesOnFrom (λ its. A.condition its.archive) config hub.store hub) }
+    ensures refused { IfErr result (λ e. e.0 ≡ HubFault.Config → ¬ IsChecked config) }
+    ensures handed { IfErr result (λ e. e.1 ≡ archive) }
+{
+    match Hub::new(alloc, config, ReservedArchive::new(archive, reserve)) {
+        Ok(hub) => Ok(hub),
+        Err((fault, archive)) => Err((fault, archive.into_archive())),
     }
 }

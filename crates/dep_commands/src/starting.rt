@@ -11,6 +11,7 @@ ghost use Rattle.dep_commands.specs.Starting.{GoesOnFromStop, IsGivenOrStore, Op
 ghost use Rattle.dep_hub.specs.Representing.{RepresentsAfter, IsClean, IsHonest};
 ghost use Rattle.dep_store.specs.HashingStores.{condition_of};
 
+use dep_exchange::Archive;
 use dep_files::Watch;
 use dep_hub::{Hub, HubFault};
 use dep_program::Outcome;
@@ -134,10 +135,16 @@ pub fn open_hub<S: Alter, W: Watch>(
     }
 }
 
-// A call of `Hub::into_store` over a database is dear to prove: it stands here alone.
 /// Hands the database of a hub back.
 pub fn close_hub<S: Alter>(hub: Hub<HashingStore<S>>) -> Connection<S>
     ensures { result ≡ hub.store.store }
 {
-    hub.into_store().close()
+    archive_of(hub).close()
+}
+
+// A call of `Hub::into_store` over a database is dear to prove, since it says much of the archive: this says which it is.
+fn archive_of<A: Archive>(hub: Hub<A>) -> A
+    ensures { result ≡ hub.store }
+{
+    hub.into_store()
 }
