@@ -96,7 +96,7 @@ fn check(
         return Ok(Checked::Refused(refusal));
     }
     if has_content(operation.target.method) {
-        check_content(alloc, config, view, operation, purpose)
+        check_content(config, view, operation, purpose, alloc)
     } else {
         Ok(Checked::Passed(ReadContent {
             metadata: None,
@@ -144,11 +144,11 @@ fn has_content(method: Method) -> bool
 // Rules 8 to 14, of a content. Nothing is hashed or read before the rules that don't need it have passed; no
 // content has both a document and a size to be ruled on.
 fn check_content(
-    alloc: Global,
     config: &Config,
     view: &View,
     operation: &Operation<'_>,
     purpose: Option<Purpose<'_>>,
+    alloc: Global,
 ) -> Result<Checked, AllocError>
     requires { option_map kind_for purpose ≡ kind_of operation.now }
     ensures { IfOk result
