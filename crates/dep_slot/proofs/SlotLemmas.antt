@@ -24,17 +24,17 @@ use Rattle.dep_outbox.specs.declared.socket.Halts.{Halts}
 use Rattle.dep_outbox.specs.declared.socket.Received.{Received}
 use Rattle.dep_outbox.specs.declared.socket.Received.TheVariants as gave
 use Rattle.dep_outbox.specs.declared.wire.Wire.{Wire}
-use Rattle.dep_outbox.specs.Wires.{reported, owed, owed_count}
+use Rattle.dep_outbox.specs.Wires.{reported, owed}
 use Rattle.dep_slot.specs.declared.slot.Slot.{Slot}
 use Rattle.dep_slot.specs.declared.connection_state.ConnectionState.{ConnectionState}
 use Rattle.dep_slot.specs.declared.connection_state.Phase.{Phase}
 use Rattle.dep_slot.specs.declared.connection_state.Phase.TheVariants.{Open, Answering, Draining, Over}
 use Rattle.dep_slot.specs.declared.connection_state.NextAction.{NextAction}
 use Rattle.dep_slot.specs.declared.connection_state.NextAction.TheVariants.{Flush, Answer, Send, Read, Finish, Drain}
-use Rattle.dep_slot.specs.ConnectionStates.{next_action, is_ended, is_sending, SendsStill, StaysOrEnds}
+use Rattle.dep_slot.specs.ConnectionStates.{is_ended, is_sending, SendsStill, StaysOrEnds}
 use Rattle.dep_slot.specs.Causes.{Causes, HasCauses}
-use Rattle.dep_slot.specs.Slots.{HubStays, PutsOff, SameBehind, SameClient, SendsOn, IsDue, IsUnknown, Rests, IsRead, MayRest, ActsOnce, TakesTurn, slot_action, left_unfinished, phase_answered, phase_offered, phase_sent}
-use Rattle.dep_slot.proofs.PhaseLemmas.{not_open, not_ended, ended_still, still_same, sends_still, opened_still, finishes_last, sends_content, ended_sent, over_sent, not_yet, over_offered, over_answered}
+use Rattle.dep_slot.specs.Slots.{HubStays, PutsOff, SameBehind, SameClient, SendsOn, IsDue, IsUnknown, Rests, IsRead, MayRest, ActsOnce, TakesTurn, owes_some, slot_action, left_unfinished, phase_answered, phase_offered, phase_sent}
+use Rattle.dep_slot.proofs.PhaseLemmas.{not_open, not_ended, ended_still, still_same, sends_still, opened_still, finishes_last, answers_unowed, reads_unowed, sends_content, ended_sent, over_sent, not_yet, over_offered, over_answered}
 
 -- a socket that has ended, or failed, gave nothing
 pub ends_read : (old new : Option (List ℕ)) (room : List ℕ) (it : Received) → (it ≡ gave.Ended) ⊎ (it ≡ gave.Failed) → Receives old new room it → Keeps old new
@@ -46,10 +46,12 @@ pub ended_asked : {P : Type 0} (old new : Halts) (it : Received) → (it ≡ gav
 ended_asked old new it (inl e) counts = inl (counts ∙ ap (λ (r : Received). after_receive r old) e)
 ended_asked old new it (inr e) counts = inr (inl (counts ∙ ap (λ (r : Received). after_receive r old) e))
 
--- what comes next, by what was computed of it
-pub due_as : {R K S : Type 0} (size : S → ℕ) (slot : Slot R K S) (owes : Bool) (next to : NextAction) → owes ≡ nat_lt 0 (owed_count size slot.wire)
-    → next ≡ next_action slot.state.phase slot.state.is_awaited owes slot.state.is_readable slot.state.is_writable → next ≡ to → slot_action size slot ≡ to
-due_as size slot owes next to owed is comes = ap (λ (o : Bool). next_action slot.state.phase slot.state.is_awaited o slot.state.is_readable slot.state.is_writable) (sym owed) ∙ (sym is ∙ comes)
+-- an item is answered, or a piece read, where it is so far and nothing is owed
+pub answer_due : {R K S : Type 0} (held : S → Option (List ℕ)) (size : S → ℕ) (slot : Slot R K S) → slot_action size slot ≡ Answer → (owes_some size slot ≡ false → IsAtEnd (owed held slot.wire)) → IsDue held size slot Answering Answer
+answer_due held size slot due none = let both = answers_unowed _ _ _ _ _ due in record { unowed = none both.1; phase = both.0; due = due }
+
+pub read_due : {R K S : Type 0} (held : S → Option (List ℕ)) (size : S → ℕ) (slot : Slot R K S) → slot_action size slot ≡ Read → (owes_some size slot ≡ false → IsAtEnd (owed held slot.wire)) → IsDue held size slot Open Read
+read_due held size slot due none = let both = reads_unowed _ _ _ _ _ due in record { unowed = none both.1; phase = both.0; due = due }
 
 empty_of : (l : List ℕ) → length l ≡ 0 → l ≡ []
 empty_of [] h = refl

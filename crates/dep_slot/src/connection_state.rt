@@ -1,6 +1,6 @@
 //! How far a connection is, and what it does next.
-ghost use Rattle.std.specs.Prelude.{◌≡◌, ◌+◌, ◌^◌, ◌-◌, ◌||◌, nat_lt, min, if◌then◌else◌, true, false};
-ghost use Rattle.dep_slot.specs.ConnectionStates.{next_action, closing, counts_anew, is_under_way, is_sending};
+ghost use Rattle.std.specs.Prelude.{◌≡◌, ◌≢◌, ◌+◌, ◌^◌, ◌-◌, ◌||◌, nat_lt, min, if◌then◌else◌, true, false};
+ghost use Rattle.dep_slot.specs.ConnectionStates.{next_action, closing, counts_anew, is_ended, is_under_way, is_sending, phase_begun};
 ghost use Rattle.dep_slot.specs.Slots.{left_unfinished, phase_answered, phase_offered, phase_sent};
 
 use crate::limits::Limits;
@@ -32,12 +32,12 @@ impl Phase {
     pub fn is_sending(self) -> bool
         ensures { result ≡ is_sending self }
     {
-        self == Phase::Sending || self == Phase::SendingLast
+        matches!(self, Phase::Sending | Phase::SendingLast)
     }
 }
 
 /// What a connection does next.
-#[derive(Clone, Copy, PartialEq, Eq)]
+#[derive(Clone, Copy)]
 pub enum NextAction {
     /// What is owed is sent, as far as the socket takes it.
     Flush,
@@ -254,6 +254,20 @@ impl ConnectionState {
         } else {
             None
         }
+    }
+}
+
+/// How far a connection is once its turn begins. Once the host is shut it is read no more.
+pub(crate) fn phase_begun(phase: Phase, is_shut: bool) -> Phase
+    ensures begun { result ≡ phase_begun phase is_shut }
+    ensures opens { result ≡ Phase.Open → phase ≡ Phase.Open }
+    ensures ended { is_ended phase ≡ true → is_ended result ≡ true }
+    ensures shut { is_shut ≡ true → result ≢ Phase.Open }
+{
+    if is_shut && phase == Phase::Open {
+        Phase::Last
+    } else {
+        phase
     }
 }
 

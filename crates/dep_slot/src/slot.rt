@@ -8,7 +8,7 @@ ghost use Rattle.dep_slot.specs.Causes.{HasCauses, causes_of};
 ghost use Rattle.dep_slot.specs.Slots.{Finishes, Flushes, PutsOff, IsDue, TakesTurn, MayRead, MayAnswer, MaySend, owes_some, slot_action, woken_slot};
 
 use crate::client::Client;
-use crate::connection_state::{ConnectionState, NextAction, Phase};
+use crate::connection_state::{ConnectionState, NextAction, Phase, phase_begun};
 use crate::limits::Limits;
 use crate::log::{Bytes, Closing, HostLog};
 use crate::read_buffer::ReadBuffer;
@@ -137,8 +137,8 @@ impl<R: Source, K: Sink, S: Spool> Slot<R, K, S> {
     pub fn set_ready(&mut self, is_readable: bool, is_writable: bool)
         ensures { self.new ≡ woken_slot self.old is_readable is_writable }
     {
-        self.state.is_readable = self.state.is_readable || is_readable;
-        self.state.is_writable = self.state.is_writable || is_writable;
+        self.state.is_readable |= is_readable;
+        self.state.is_writable |= is_writable;
     }
 
     /// Whether a content is sent behind its last reply.
@@ -186,9 +186,7 @@ impl<R: Source, K: Sink, S: Spool> Slot<R, K, S> {
         let owes = self.wire.owes();
         self.state.begin_turn(owes, second, limits);
         self.state.is_awaited = is_awaited;
-        if is_shut && self.state.phase == Phase::Open {
-            self.state.phase = Phase::Last;
-        }
+        self.state.phase = phase_begun(self.state.phase, is_shut);
     }
 
     /// Why it is closed now, if it is.
@@ -224,18 +222,19 @@ impl<R: Source, K: Sink, S: Spool> Slot<R, K, S> {
         ensures waits { result.is_busy ≡ false → slot_action S.size self.new ≡ NextAction.Wait }
         ensures busy { slot_action S.size self.new ≡ NextAction.Wait → result.is_busy ≡ false }
     {
-        let has_sent = turn.may_send && self.next_action() == NextAction::Send;
+        let has_sent = turn.may_send && matches!(self.next_action(), NextAction::Send);
         let before = self.wire.delivered();
         self.act(hub, buffer, turn, log);
         let sent = self.wire.delivered().saturating_sub(before);
         self.state.count(sent);
-        let is_busy = self.next_action() != NextAction::Wait;
+        let is_busy = !matches!(self.next_action(), NextAction::Wait);
         TurnOutcome { has_sent, is_busy }
     }
 
     /// What it does next.
     fn next_action(&self) -> NextAction
-        ensures { result ≡ slot_action S.size self.now }
+        ensures next { result ≡ slot_action S.size self.now }
+        ensures unowed { owes_some S.size self.now ≡ false → IsAtEnd (owed S.held self.now.wire) }
     {
         self.state.next_action(self.wire.owes())
     }
@@ -266,7 +265,7 @@ impl<R: Source, K: Sink, S: Spool> Slot<R, K, S> {
         ensures moved { min self.old.state.moved (2 ^ 64 - 1) ≤ self.new.state.moved }
         ensures noted { L.notes log.new ≡ L.notes log.old }
     {
-        match self.state.next_action(self.wire.owes()) {
+        match self.next_action() {
             NextAction::Flush => self.flush(),
             NextAction::Answer => self.answer(hub, turn.time.moment, log),
             NextAction::Send => if turn.may_send {
