@@ -19,6 +19,8 @@ use std::alloc::Global;
 
 /// Checks the configuration, opens the database as a store, takes the reserve, if there is one, and makes a hub over both,
 /// without connections. A refusal hands the connection back, as one of `open_hub` does.
+// Where this is inlined, LLVM takes seconds for the large values that meet.
+#[inline(never)]
 pub fn open_reserved_hub<S: Alter, R: Reserve + Drop>(
     alloc: Global,
     config: Config,

@@ -70,6 +70,8 @@ pub fn check_config(alloc: Global, config: &Config) -> Result<(), HubFault>
 /// Checks the configuration, opens the database as a store, and makes a hub over it, without
 /// connections. A refusal hands the connection back. The watch is told of what is read where
 /// version 1 becomes version 2.
+// Where this is inlined, LLVM takes seconds for the large values that meet.
+#[inline(never)]
 pub fn open_hub<S: Alter, W: Watch>(
     alloc: Global,
     config: Config,

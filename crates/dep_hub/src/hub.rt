@@ -62,6 +62,8 @@ impl<A: Archive> Hub<A> {
     ghost use Rattle.dep_exchange.specs.ArchiveCalls.{Asked, WorkedAhead, Runs, FailsToReport};
 
     /// A hub over the store, without connections. A refusal hands the store back.
+    // Where this is inlined, LLVM takes seconds for the large values that meet.
+    #[inline(never)]
     pub fn new(alloc: Global, config: Config, store: A) -> Result<Hub<A>, (HubFault, A)>
         ensures represents { IfOk result (λ hub. (first : State) → Represents (A.condition store) first
             → RepresentsAfter A.condition hub first []) }

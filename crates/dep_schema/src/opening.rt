@@ -242,6 +242,8 @@ fn prepare<S: Alter>(connection: &mut Connection<S>) -> Result<u64, OpenFault>
 /// Makes the tables where there is none, in one transaction, and takes a database that has those of version 2 or 1.
 /// A database without a table `format` is taken as empty; where another of the names is taken there, that is a fault of the store.
 /// After a fault the connection is handed back, and while its store is open it has what it had.
+// Where this is inlined, LLVM takes seconds for the large values that meet.
+#[inline(never)]
 pub fn open<S: Alter>(
     mut connection: Connection<S>,
 ) -> Result<Schema<S>, (OpenFault, Connection<S>)>

@@ -71,6 +71,8 @@ impl<S: Alter> Store<S> {
     /// Opens a database: one that has no table `format` yet, whose tables are then made, one that has the tables of
     /// version 2, or one of version 1, which becomes one of version 2, in one transaction. For that each file's bytes are
     /// read once, as they stand, and the watch is told of each block. After a fault the connection is handed back.
+    // Where this is inlined, LLVM takes seconds for the large values that meet.
+    #[inline(never)]
     pub fn open<W: Watch>(
         alloc: Global,
         connection: Connection<S>,
