@@ -30,18 +30,18 @@ pub(crate) struct Ready {
 
 /// The sockets of which the system says when they are ready, and what it said of connections and wasn't taken yet.
 #[derive(Drop)]
-pub(crate) struct Watch {
+pub(crate) struct Poller {
     poll: Poll,
     polled: Events,
     ready: Vec<Ready>,
 }
 
-impl Watch {
-    /// A watch over no socket yet, with room for what is said of all of them at once.
-    pub fn new<R: Net>(alloc: Global, rt: &R) -> io::Result<Watch> {
+impl Poller {
+    /// A poller of no socket yet, with room for what is said of all of them at once.
+    pub fn new<R: Net>(alloc: Global, rt: &R) -> io::Result<Poller> {
         let polled = Events::with_capacity(alloc, MOST_READY)?;
         let ready = Vec::with_capacity(alloc, MOST_READY)?;
-        Ok(Watch {
+        Ok(Poller {
             poll: Poll::new(rt)?,
             polled,
             ready,

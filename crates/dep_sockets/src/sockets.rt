@@ -2,7 +2,7 @@
 
 use crate::acceptor::Entrance;
 use crate::file_spool::FileSpool;
-use crate::readiness::Watch;
+use crate::readiness::Poller;
 use crate::round_clock::RoundClock;
 use crate::socket::{SocketSink, SocketSource, halves};
 use crate::spools::Spools;
@@ -61,7 +61,7 @@ enum EventKind {
 pub struct Sockets<'a, R: Files> {
     alloc: Global,
     spools: &'a Spools<'a, R>,
-    watch: Watch,
+    poller: Poller,
     /// It is closed once it was told to stop, so that who comes then is rejected by the system.
     listener: Option<TcpListener>,
     stage: EventKind,
@@ -87,12 +87,12 @@ impl<'a, R: Files + Net + Clock> Sockets<'a, R> {
     ) -> io::Result<Sockets<'a, R>> {
         let start = Instant::now(rt)?;
         let open = Rc::new(alloc, ())?;
-        let watch = Watch::new(alloc, rt)?;
-        let listener = watch.listener_at(rt, entrance.address)?;
+        let poller = Poller::new(alloc, rt)?;
+        let listener = poller.listener_at(rt, entrance.address)?;
         Ok(Sockets {
             alloc,
             spools,
-            watch,
+            poller,
             listener: Some(listener),
             stage: EventKind::LettingIn(0),
             is_waited_for: true,
@@ -126,7 +126,7 @@ impl<'a, R: Files + Net + Clock> Sockets<'a, R> {
             return Ok(());
         }
         let nap = Duration::from_secs(if is_busy { 0 } else { NAP });
-        let is_waited_for = self.watch.wait(nap)?;
+        let is_waited_for = self.poller.wait(nap)?;
         self.is_waited_for |= is_waited_for;
         self.clock.note_look();
         Ok(())
@@ -154,7 +154,7 @@ impl<'a, R: Files + Net + Clock> Sockets<'a, R> {
     ) -> Option<SocketClient<'a, R>> {
         // Else a short content would wait until its client has acknowledged the head.
         let _ = stream.set_nodelay(true);
-        if !self.watch.add(&mut stream, at) {
+        if !self.poller.add(&mut stream, at) {
             return None;
         }
         match halves(self.alloc, stream, &self.open) {
@@ -213,7 +213,7 @@ impl<'a, R: Files + Net + Clock> Events<SocketSource, SocketSink, FileSpool<'a, 
             }
             self.stage = EventKind::Reporting;
         }
-        match self.watch.pop() {
+        match self.poller.pop() {
             Some(ready) => Event::Ready {
                 at: ready.at,
                 is_readable: ready.is_readable,
