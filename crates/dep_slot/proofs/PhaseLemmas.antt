@@ -9,7 +9,7 @@ use Rattle.dep_exchange.specs.declared.next.Next.TheVariants.{More, Waiting, NoS
 use Rattle.dep_slot.specs.declared.connection_state.Phase.{Phase}
 use Rattle.dep_slot.specs.declared.connection_state.Phase.TheVariants.{Open, Answering, Sending, SendingLast, Last, Draining, Over}
 use Rattle.dep_slot.specs.declared.connection_state.NextAction.{NextAction}
-use Rattle.dep_slot.specs.declared.connection_state.NextAction.TheVariants.{Flush, Answer, Send, Read, Finish, Drain}
+use Rattle.dep_slot.specs.declared.connection_state.NextAction.TheVariants.{Flush, Send, Finish, Drain}
 use Rattle.dep_slot.specs.ConnectionStates.{next_action, action_sending, is_ended, is_sending, phase_begun, SendsStill}
 use Rattle.dep_slot.specs.Slots.{phase_offered, phase_answered, phase_sent}
 
@@ -43,14 +43,12 @@ opened_still before after (inr o) h = absurd (not_open after o h)
 
 -- What holds of a connection by what it does next: who flushes owes; nothing of who is drained comes to the hub; who is
 -- told that nothing more is sent is read no more, and sent no content; a content is sent on where one is sent, and
--- where no request waits for it only where nothing is owed; and so it is where an item is answered, or a piece read.
+-- where no request waits for it only where nothing is owed.
 abbrev Fits : NextAction → Phase → (a owes : Bool) → Type 0
 Fits Flush p a owes = owes ≡ true
 Fits Drain p a owes = is_ended p ≡ true
 Fits Finish p a owes = SendsStill p Draining
 Fits Send p a owes = (is_sending p ≡ true) × (a ≡ false → owes ≡ false)
-Fits Answer p a owes = (p ≡ Answering) × (owes ≡ false)
-Fits Read p a owes = (p ≡ Open) × (owes ≡ false)
 Fits next p a owes = Unit {0}
 
 fits_sending : (p : Phase) (a owes w : Bool) → is_sending p ≡ true → Fits (action_sending a owes w) p a owes
@@ -65,9 +63,9 @@ fits Sending a owes r w = fits_sending Sending a owes w refl
 fits SendingLast a owes r w = fits_sending SendingLast a owes w refl
 fits p a true r true = refl
 fits p a true r false = tt
-fits Open a false true w = (refl, refl)
+fits Open a false true w = tt
 fits Open a false false w = tt
-fits Answering a false r w = (refl, refl)
+fits Answering a false r w = tt
 fits Last a false r w = inr (refl, λ e. let bad : Last ≡ Over = e in cc)
 fits Draining a false true w = refl
 fits Draining a false false w = tt
@@ -89,12 +87,6 @@ sends_content p a owes r w h = let both : Fits Send p a owes = fits_next p a owe
 
 pub sends_unowed : (p : Phase) (a owes r w : Bool) → next_action p a owes r w ≡ Send → a ≡ false → owes ≡ false
 sends_unowed p a owes r w h = let both : Fits Send p a owes = fits_next p a owes r w Send h in both.1
-
-pub answers_unowed : (p : Phase) (a owes r w : Bool) → next_action p a owes r w ≡ Answer → (p ≡ Answering) × (owes ≡ false)
-answers_unowed p a owes r w h = fits_next p a owes r w Answer h
-
-pub reads_unowed : (p : Phase) (a owes r w : Bool) → next_action p a owes r w ≡ Read → (p ≡ Open) × (owes ≡ false)
-reads_unowed p a owes r w h = fits_next p a owes r w Read h
 
 -- who has ended has ended once some of a content was sent, and is over only where it was
 pub ended_sent : (p : Phase) (answer : SentOn) → is_ended p ≡ true → is_ended (phase_sent p answer) ≡ true

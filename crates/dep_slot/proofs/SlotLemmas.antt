@@ -33,8 +33,8 @@ use Rattle.dep_slot.specs.declared.connection_state.NextAction.{NextAction}
 use Rattle.dep_slot.specs.declared.connection_state.NextAction.TheVariants.{Flush, Answer, Send, Read, Finish, Drain}
 use Rattle.dep_slot.specs.ConnectionStates.{is_ended, is_sending, SendsStill, StaysOrEnds}
 use Rattle.dep_slot.specs.Causes.{Causes, HasCauses}
-use Rattle.dep_slot.specs.Slots.{HubStays, PutsOff, SameBehind, SameClient, SendsOn, IsDue, IsUnknown, Rests, IsRead, MayRest, ActsOnce, TakesTurn, owes_some, slot_action, left_unfinished, phase_answered, phase_offered, phase_sent}
-use Rattle.dep_slot.proofs.PhaseLemmas.{not_open, not_ended, ended_still, still_same, sends_still, opened_still, finishes_last, answers_unowed, reads_unowed, sends_content, ended_sent, over_sent, not_yet, over_offered, over_answered}
+use Rattle.dep_slot.specs.Slots.{HubStays, PutsOff, SameBehind, SameClient, SendsOn, IsDue, IsUnknown, Rests, IsRead, MayRest, ActsOnce, TakesTurn, slot_action, left_unfinished, phase_answered, phase_offered, phase_sent}
+use Rattle.dep_slot.proofs.PhaseLemmas.{not_open, not_ended, ended_still, still_same, sends_still, opened_still, finishes_last, sends_content, ended_sent, over_sent, not_yet, over_offered, over_answered}
 
 -- a socket that has ended, or failed, gave nothing
 pub ends_read : (old new : Option (List ℕ)) (room : List ℕ) (it : Received) → (it ≡ gave.Ended) ⊎ (it ≡ gave.Failed) → Receives old new room it → Keeps old new
@@ -45,13 +45,6 @@ ends_read old new room it (inr e) gives = subst (λ (r : Received). Receives old
 pub ended_asked : {P : Type 0} (old new : Halts) (it : Received) → (it ≡ gave.Ended) ⊎ (it ≡ gave.Failed) → new ≡ after_receive it old → (new ≡ after_receive gave.Ended old) ⊎ ((new ≡ after_receive gave.Failed old) ⊎ P)
 ended_asked old new it (inl e) counts = inl (counts ∙ ap (λ (r : Received). after_receive r old) e)
 ended_asked old new it (inr e) counts = inr (inl (counts ∙ ap (λ (r : Received). after_receive r old) e))
-
--- an item is answered, or a piece read, where it is so far and nothing is owed
-pub answer_due : {R K S : Type 0} (held : S → Option (List ℕ)) (size : S → ℕ) (slot : Slot R K S) → slot_action size slot ≡ Answer → (owes_some size slot ≡ false → IsAtEnd (owed held slot.wire)) → IsDue held size slot Answering Answer
-answer_due held size slot due none = let both = answers_unowed _ _ _ _ _ due in record { unowed = none both.1; phase = both.0; due = due }
-
-pub read_due : {R K S : Type 0} (held : S → Option (List ℕ)) (size : S → ℕ) (slot : Slot R K S) → slot_action size slot ≡ Read → (owes_some size slot ≡ false → IsAtEnd (owed held slot.wire)) → IsDue held size slot Open Read
-read_due held size slot due none = let both = reads_unowed _ _ _ _ _ due in record { unowed = none both.1; phase = both.0; due = due }
 
 empty_of : (l : List ℕ) → length l ≡ 0 → l ≡ []
 empty_of [] h = refl

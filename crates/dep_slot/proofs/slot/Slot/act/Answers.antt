@@ -4,7 +4,7 @@ use Rattle.dep_slot.specs.declared.connection_state.ConnectionState.{ConnectionS
 use Rattle.dep_slot.specs.declared.connection_state.NextAction.TheVariants.{Read, Wait}
 use Rattle.dep_slot.specs.Causes.{causes_of}
 use Rattle.dep_slot.specs.Slots.{TakesTurn}
-use Rattle.dep_slot.proofs.SlotLemmas.{answer_due, read_due, put_off, flushed, finished, drained, rested_so}
+use Rattle.dep_slot.proofs.SlotLemmas.{put_off, flushed, finished, drained, rested_so}
 use Rattle.dep_slot.proofs.PhaseLemmas.{sends_owed, sends_unowed, drains_ended}
 use Rattle.dep_slot.proofs.slot.Slot.act.Goals as goal
 
@@ -50,9 +50,3 @@ send_on-requires-clause-due g c = sym c.next_action.ensures.next ∙ c.in-Send.i
 
 pub send_on-requires-clause-unowed : goal.send_on-requires-clause-unowed
 send_on-requires-clause-unowed g c = λ none. c.next_action.ensures.unowed (sends_unowed _ _ _ _ _ (sym c.next_action.ensures.next ∙ c.in-Send.is) none)
-
-pub answer-requires : goal.answer-requires
-answer-requires g c = answer_due g.S.Spool.held g.S.Spool.size c.args.self.now (sym c.next_action.ensures.next ∙ c.in-Answer.is) c.next_action.ensures.unowed
-
-pub read-requires : goal.read-requires
-read-requires g c = read_due g.S.Spool.held g.S.Spool.size c.args.self.now (sym c.next_action.ensures.next ∙ c.in-Read.is) c.next_action.ensures.unowed
