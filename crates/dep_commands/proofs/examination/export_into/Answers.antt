@@ -1,5 +1,4 @@
-use Rattle.std.proofs.Common.{[], List, ℕ, inl, sym, subst}
-use Rattle.std.specs.Io.KnownBytes.{Appends}
+use Rattle.std.proofs.Common.{[], inl, sym, subst}
 use Rattle.dep_program.specs.declared.outcome.Outcome.{Outcome}
 use Rattle.dep_commands.specs.Examinations.{ExportsInto}
 use Rattle.dep_commands.proofs.ExaminationLemmas.{unfilled}
