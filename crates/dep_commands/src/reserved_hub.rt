@@ -72,7 +72,8 @@ fn hub_over<A: Archive, R: Reserve + Drop>(
     ensures configured { IfOk result (λ hub. hub.config ≡ config) }
     ensures checked { IfOk result (λ _. IsChecked config) }
     ensures kept { IfOk result (λ hub. hub.store.archive ≡ archive) }
-    ensures again { IfOk result (λ hub. GoesOnFrom (λ its. A.condition its.archive) config hub.store hub) }
+    ensures again { IfOk result (λ hub.
+        GoesOnFrom (λ its. A.condition its.archive) config hub.store hub) }
     ensures refused { IfErr result (λ e. e.0 ≡ HubFault.Config → ¬ IsChecked config) }
     ensures handed { IfErr result (λ e. e.1 ≡ archive) }
 {
