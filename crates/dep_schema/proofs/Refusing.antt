@@ -35,7 +35,7 @@ use Rattle.dep_migrations.specs.Beside.{LacksFormat}
 use Rattle.dep_schema.specs.OpenTables.{HasKnownVersion}
 use Rattle.dep_schema.specs.Texts.{find_format_text}
 use Rattle.dep_tables.specs.Faults.{fault_for}
-use Rattle.dep_schema.specs.OpenFaults.{open_fault_for, reported_by, ReportsError, ReportsVersion, ShowsVersion, ShowsNone, FailsToReport, FailsToFind, FailsToFindOrMake, begun, GivesOut, RefusesKnown}
+use Rattle.dep_schema.specs.OpenFaults.{open_fault_for, reported_by, ReportsError, FindsVersion, ShowsVersion, ShowsNone, FailsToReport, FailsToFind, FailsToFindOrMake, begun, GivesOut, RefusesKnown}
 use Rattle.dep_migrations.specs.Faults.{FailsToMake}
 use Rattle.dep_schema.specs.declared.lending.Lent.{Lent}
 use Rattle.dep_schema.specs.declared.opening.OpenFault.{OpenFault}
@@ -69,17 +69,17 @@ match_err P Q (Err e) fault is q = subst Q (sym is) q
 
 -- ---- what rows tell of the version
 
-pub version_told : (rows : List Row) (r : Result (Option ℕ) OpenFault) → ReportsVersion rows r → IfOk r (λ found. IfSome found IsKnownVersion)
+pub version_told : (rows : List Row) (r : Result (Option ℕ) OpenFault) → FindsVersion rows r → IfOk r (λ found. IfSome found IsKnownVersion)
 version_told rows (Ok found) it = subst (λ (o : Option ℕ). IfSome o IsKnownVersion) (sym it.1) it.2
 version_told rows (Err fault) it = tt
 
 module _ (old new : State) (rows : List Row) (shown : Shown find_format_text [] old new rows) where
-  pub known_told : (r : Result (Option ℕ) OpenFault) → ReportsVersion rows r → IsKnown old
+  pub known_told : (r : Result (Option ℕ) OpenFault) → FindsVersion rows r → IsKnown old
       → MatchResult r (λ found. (version : ℕ) × (found ≡ Some version) × HasVersion version (tables_of old)) (λ fault. fault ≡ UnknownVersion → HasKnownVersion (tables_of old) → ⊥)
   known_told (Ok found) it known = (it.0, it.1, (found_version it.0 old new rows known shown).0 it.3)
   known_told (Err fault) it known = λ said. none_had old new rows known shown it.1
 
-  pub finds_told : (r : Result (Option ℕ) OpenFault) → ReportsVersion rows r → MatchResult r (λ found. MatchOption found (ShowsNone old new) (ShowsVersion old new)) (FailsToFind old new)
+  pub finds_told : (r : Result (Option ℕ) OpenFault) → FindsVersion rows r → MatchResult r (λ found. MatchOption found (ShowsNone old new) (ShowsVersion old new)) (FailsToFind old new)
   finds_told (Ok found) it = subst (λ (o : Option ℕ). MatchOption o (ShowsNone old new) (ShowsVersion old new)) (sym it.1) (rows, shown, it.3)
   finds_told (Err fault) it = inl (it.0, inl (rows, shown, it.1))
 

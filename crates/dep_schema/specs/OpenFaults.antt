@@ -54,8 +54,8 @@ abbrev pub AreKnownVersion : List Row → Type 0
 AreKnownVersion rows = (version : ℕ) × IsKnownVersion version × AreVersion (pos version) rows
 
 -- what is returned of the version by what the query for it shows
-abbrev pub ReportsVersion : List Row → Result (Option ℕ) OpenFault → Type 0
-ReportsVersion rows result = MatchResult result
+abbrev pub FindsVersion : List Row → Result (Option ℕ) OpenFault → Type 0
+FindsVersion rows result = MatchResult result
     (λ found. (version : ℕ) × (found ≡ Some version) × IsKnownVersion version
     × AreVersion (pos version) rows)
     (λ fault. (fault ≡ open_fault.UnknownVersion) × (AreKnownVersion rows → ⊥))

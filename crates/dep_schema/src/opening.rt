@@ -13,7 +13,7 @@ ghost use Rattle.dep_migrations.specs.Beside.{LacksFormat, AreFree};
 ghost use Rattle.dep_schema.specs.Making.{FindsNone, FindsKnown, FindsShown, AddsFirst, LeavesKnown, FindsOrMakes};
 ghost use Rattle.dep_migrations.specs.Making.{MakesFirst};
 ghost use Rattle.dep_schema.specs.Opening.{RepresentsKnown, RepresentsMade, RepresentsFresh, RepresentsFound, RepresentsAdded, WasOpen, SurvivesOpen, OpensBy, RefusesBy};
-ghost use Rattle.dep_schema.specs.OpenFaults.{open_fault_number, reported_by, AreVersion, ReportsVersion, ShowsOrMakes, begun, FailsToOpen, RefusesKnown};
+ghost use Rattle.dep_schema.specs.OpenFaults.{open_fault_number, reported_by, AreVersion, FindsVersion, ShowsOrMakes, begun, FailsToOpen, RefusesKnown};
 
 use crate::committing::commit;
 use crate::lending::Lent;
@@ -125,7 +125,7 @@ fn reported_by(error: Error) -> Result<Option<u64>, OpenFault>
 
 /// The version that these rows of the table `format` have. It has to be 1 or 2.
 fn version_of(rows: &[Row]) -> Result<Option<u64>, OpenFault>
-    ensures { ReportsVersion rows.now result }
+    ensures { FindsVersion rows.now result }
 {
     if are_known(rows, 2) {
         Ok(Some(2))

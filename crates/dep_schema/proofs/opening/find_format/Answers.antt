@@ -2,7 +2,7 @@ use Rattle.std.proofs.Common.{subst}
 use Rattle.sqlite.specs.Held.{state}
 use Rattle.dep_tables.proofs.Results.{if_ok}
 use Rattle.dep_schema.specs.Texts.{find_format_text}
-use Rattle.dep_schema.specs.OpenFaults.{ReportsVersion}
+use Rattle.dep_schema.specs.OpenFaults.{FindsVersion}
 use Rattle.dep_schema.proofs.Asking.{shown_stays, reports_stay}
 use Rattle.dep_schema.proofs.Version.{find_stays, none_shown, empty_lacks}
 use Rattle.dep_schema.proofs.Refusing.{version_told, known_told, finds_told, lacking_reported, known_reported, version_reported, unchanged_reported, finds_reported}
@@ -15,7 +15,7 @@ returns-in-Ok g c =
     let new = state g.S.Store c.query_all.new.self.conn.now in
     let shown = c.in-Ok.ensures.ok in
     let r = c.version_of.result in
-    let told = subst (λ rows. ReportsVersion rows r) c.as_slice.ensures.value c.version_of.ensures in
+    let told = subst (λ rows. FindsVersion rows r) c.as_slice.ensures.value c.version_of.ensures in
     record {
       empty = λ clean empty. absurd (none_shown old new _ (empty_lacks _ empty) (shown clean));
       ours = λ clean known. known_told old new _ (shown clean) r told known;
