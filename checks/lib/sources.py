@@ -141,7 +141,7 @@ class Source:
 
     def note_item(self, place, name):
         line = at = self.line_of(place)
-        while at > 1 and self.lines[at - 2].lstrip().startswith(("#[", "ghost use ")):
+        while at > 1 and self.lines[at - 2].lstrip().startswith(("#[", "ghost use ", "// ")):
             at -= 1
         self.items.append(Item(line, name, at > 1 and self.lines[at - 2].lstrip().startswith("///")))
 
