@@ -24,7 +24,7 @@ use Rattle.dep_bag.specs.Bag.{tag_files, bag_files, listed_files, payload}
 use Rattle.dep_bag.proofs.Files.{payload_entry}
 use Rattle.dep_bag.proofs.TagFileParts.{part_of as at_tag_file, by_tag_file}
 use Rattle.dep_bag.proofs.ReportedBag.{same_tag_files}
-use Rattle.dep_answers.specs.Answers.{Document, PlainText, ReplyContent, bytes_of, shown_file}
+use Rattle.dep_answers.specs.Answers.{Document, PlainText, ReplyContent, bytes_of, file_reply}
 use Rattle.dep_answers.specs.Bags.{BagEntry, bag_entries, tags_shown, payload_shown, shown_in_bag}
 use Rattle.dep_answers.specs.Reporting.{IsTagView, tag_view, view_by}
 use Rattle.dep_answers.specs.Reported.{content_of, form_at}
@@ -35,7 +35,7 @@ Known = List ℕ × Option ReplyContent
 
 abbrev reported_entry : ℕ → Object → List ℕ × BagPart → Known
 reported_entry n o (path, Bytes text) = (path, Some (content_of (form_at path) text))
-reported_entry n o (path, Stored f) = (path, option_map (shown_file n f) (finmap.get o.files f))
+reported_entry n o (path, Stored f) = (path, option_map (file_reply n f) (finmap.get o.files f))
 
 abbrev held_entry : BagEntry → Known
 held_entry place = (place.0, Some place.1)
@@ -46,7 +46,7 @@ payload_reported : (n : ℕ) (o : Object) (es : List (ℕ × File)) → All (λ 
     → each (reported_entry n o) (each stored_part (each (λ e. file_row n e.0 e.1) es)) ≡ each held_entry (each (payload_shown n) es)
 payload_reported n o [] h = refl
 payload_reported n o (e ∷ es) h = λ i.
-    ((payload_shown n e).0, option_map (shown_file n e.0) (All-head (λ e. finmap.get o.files e.0 ≡ Some e.1) e es h i))
+    ((payload_shown n e).0, option_map (file_reply n e.0) (All-head (λ e. finmap.get o.files e.0 ≡ Some e.1) e es h i))
     ∷ payload_reported n o es (All-tail (λ e. finmap.get o.files e.0 ≡ Some e.1) e es h) i
 
 entries_reported : (n : ℕ) (o : Object) → each (reported_entry n o) (reported_parts (object_view n o)) ≡ each held_entry (bag_entries n o)
@@ -147,23 +147,23 @@ by_bytes n o path (Some (r, Bytes t)) (Some place) e right text is =
 by_bytes n o path (Some (r, Stored f)) q e right text is = absurd (cc is)
 
 -- a content that is known is that of a file
-known_file : (n f : ℕ) (m : Option File) (c : ReplyContent) → option_map (shown_file n f) m ≡ Some c
-    → (it : File) × ((m ≡ Some it) × (Some c ≡ Some (shown_file n f it)))
+known_file : (n f : ℕ) (m : Option File) (c : ReplyContent) → option_map (file_reply n f) m ≡ Some c
+    → (it : File) × ((m ≡ Some it) × (Some c ≡ Some (file_reply n f it)))
 known_file n f None c e = absurd (cc)
 known_file n f (Some it) c e = (it, (refl, sym e))
 
 by_stored : (n : ℕ) (o : Object) (p : Option (List ℕ × BagPart)) (q : Option BagEntry) → option_map (reported_entry n o) p ≡ option_map held_entry q
     → (f : ℕ) → Some (Stored f) ≡ option_map (λ x. x.1) p
-    → (it : File) × ((finmap.get o.files f ≡ Some it) × (option_map (λ x. x.1) q ≡ Some (shown_file n f it)))
+    → (it : File) × ((finmap.get o.files f ≡ Some it) × (option_map (λ x. x.1) q ≡ Some (file_reply n f it)))
 by_stored n o None q e f is = absurd (cc)
 by_stored n o (Some (r, Bytes t)) q e f is = absurd (cc is)
 by_stored n o (Some (r, Stored g)) None e f is = absurd (cc)
 by_stored n o (Some (r, Stored g)) (Some place) e f is =
-    let known : option_map (shown_file n g) (finmap.get o.files g) ≡ Some place.1 =
-    ap (λ (k : Known). k.1) (same_some (r, option_map (shown_file n g) (finmap.get o.files g)) (held_entry place) e) in
+    let known : option_map (file_reply n g) (finmap.get o.files g) ≡ Some place.1 =
+    ap (λ (k : Known). k.1) (same_some (r, option_map (file_reply n g) (finmap.get o.files g)) (held_entry place) e) in
     let file = known_file n g (finmap.get o.files g) place.1 known in
     let same = same_stored f g is in
-    (file.0, (ap (finmap.get o.files) same ∙ file.1.0, file.1.1 ∙ ap (λ (k : ℕ). Some (shown_file n k file.0)) (sym same)))
+    (file.0, (ap (finmap.get o.files) same ∙ file.1.0, file.1.1 ∙ ap (λ (k : ℕ). Some (file_reply n k file.0)) (sym same)))
 
 by_none : (n : ℕ) (o : Object) (p : Option (List ℕ × BagPart)) (q : Option BagEntry) → option_map (reported_entry n o) p ≡ option_map held_entry q
     → None ≡ option_map (λ x. x.1) p → option_map (λ x. x.1) q ≡ None
@@ -185,7 +185,7 @@ text_shown n o view path text e is =
 -- the content of a file of the object
 pub file_shown : (n : ℕ) (o : Object) (view : ObjectView) (path : List ℕ) (f : ℕ) → IsTagView path view false n o
     → Some (Stored f) ≡ reported_part view path
-    → (it : File) × ((finmap.get o.files f ≡ Some it) × (shown_in_bag n o path ≡ Some (shown_file n f it)))
+    → (it : File) × ((finmap.get o.files f ≡ Some it) × (shown_in_bag n o path ≡ Some (file_reply n f it)))
 file_shown n o view path f e is =
     by_stored n o (part n o path) (place n o path) (both_found n o path) f (is ∙ part_of n o path view e)
 

@@ -15,7 +15,7 @@ use Rattle.dep_types.proofs.Kept.{get-insert_same}
 use Rattle.dep_fields.specs.declared.kind.Kind.{Kind}
 use Rattle.dep_fields.specs.declared.kind.Kind.TheVariants as of
 use Rattle.dep_docs_in.specs.declared.reference.Reference.{Reference}
-use Rattle.dep_decisions.specs.Kinds.{kind_of, kind_without, is_completion, may_complete, takes_kind}
+use Rattle.dep_decisions.specs.Kinds.{content_kind, kind_without, is_completion, may_complete, takes_kind}
 use Rattle.dep_decisions.specs.Decisions.{decision_at, deposit_of, ingests, references_in}
 use Rattle.dep_decisions.specs.LookUps.{has_object, in_state, tag_at}
 use Rattle.dep_decisions.specs.Rules.{document_rule, has_content, kind_rule, presence_rule, presence_refusal, refusal}
@@ -93,7 +93,7 @@ module _ (config : Config) (s : State) (op : Operation) where
   put_kinds n (of.Segment k) e = absurd (cc)
 
   -- the deposit of a content that is taken
-  deposit_is : (kind : Kind) → kind_of op ≡ Some kind → takes_kind Service Post kind ≡ true → document_rule config (in_state s) op ≡ None
+  deposit_is : (kind : Kind) → content_kind op ≡ Some kind → takes_kind Service Post kind ≡ true → document_rule config (in_state s) op ≡ None
       → (d : Deposit) × (deposit_of entries op ≡ Some d)
   deposit_is kind is takes e =
       let d = deposit_for config s op kind takes (document_passed config s op kind is e) in

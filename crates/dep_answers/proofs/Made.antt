@@ -21,7 +21,7 @@ use Rattle.dep_fields.specs.declared.kind.Opening.{Opening}
 use Rattle.dep_docs_in.specs.Documents.{metadata_read}
 use Rattle.dep_docs_in.specs.declared.reference.Reference.{Reference}
 use Rattle.dep_docs_out.specs.Documents.{status_document, object_url, upload_document, upload_url}
-use Rattle.dep_decisions.specs.Kinds.{kind_of, kind_by, kind_without, is_completion, may_complete, may_hold, takes_kind}
+use Rattle.dep_decisions.specs.Kinds.{content_kind, kind_by, kind_without, is_completion, may_complete, may_hold, takes_kind}
 use Rattle.dep_decisions.specs.Decisions.{decision, decision_at, decision_with, deposit_by, deposit_of, ingests, opened, references_in, referred_files}
 use Rattle.dep_decisions.specs.LookUps.{in_state}
 use Rattle.dep_decisions.specs.Rules.{document_refusal, document_rule, has_content, kind_rule, references_refusal, refusal}
@@ -58,9 +58,9 @@ taken_by op (Value k) kind without e =
 taken_by op Bad kind without e = absurd (cc)
 taken_by op Absent kind without e = absurd (let none : None ≡ Some kind = sym without ∙ e in cc)
 
-pub taken : (op : Operation) (kind : Kind) → kind_without op.target.resource op.target.method ≡ None → kind_of op ≡ Some kind
+pub taken : (op : Operation) (kind : Kind) → kind_without op.target.resource op.target.method ≡ None → content_kind op ≡ Some kind
     → takes_kind op.target.resource op.target.method kind ≡ true
-unfolding kind_of
+unfolding content_kind
 taken op kind without e = taken_by op op.fields.disposition kind without e
 
 either_true : (a b : Bool) → (a || b) ≡ true → b ≡ false → a ≡ true
@@ -79,13 +79,13 @@ no_completion : (op : Operation) → may_complete op.target.resource op.target.m
 unfolding is_completion
 no_completion op e = none_of (may_complete op.target.resource op.target.method) _ _ _ e
 
-pub kind_unless : (op : Operation) → is_completion op ≡ false → kind_rule op ≡ None → (kind : Kind) × (kind_of op ≡ Some kind)
+pub kind_unless : (op : Operation) → is_completion op ≡ false → kind_rule op ≡ None → (kind : Kind) × (content_kind op ≡ Some kind)
 unfolding kind_rule
 kind_unless op none e =
-    it_is (kind_of op) (either_true (is_some (kind_of op)) (is_completion op) (unless-none (is_some (kind_of op) || is_completion op) BadRequest e) none)
+    it_is (content_kind op) (either_true (is_some (content_kind op)) (is_completion op) (unless-none (is_some (content_kind op) || is_completion op) BadRequest e) none)
 
 pub reported_kind : (op : Operation) → may_complete op.target.resource op.target.method ≡ false → kind_rule op ≡ None
-    → (kind : Kind) × (kind_of op ≡ Some kind)
+    → (kind : Kind) × (content_kind op ≡ Some kind)
 reported_kind op whole e = kind_unless op (no_completion op whole) e
 
 back : (n : ℕ) → (n + 1) - 1 ≡ n
@@ -100,7 +100,7 @@ module _ (config : Config) (s : State) (op : Operation) where
   abbrev refs : Option (List Reference)
   refs = references_in config op
 
-  pub document_passed : (kind : Kind) → kind_of op ≡ Some kind → document_rule config (in_state s) op ≡ None → document_refusal config (in_state s) op kind ≡ None
+  pub document_passed : (kind : Kind) → content_kind op ≡ Some kind → document_rule config (in_state s) op ≡ None → document_refusal config (in_state s) op kind ≡ None
   unfolding document_rule
   document_passed kind is e = ap (option_and_then (document_refusal config (in_state s) op)) (sym is) ∙ e
 
@@ -120,7 +120,7 @@ module _ (config : Config) (s : State) (op : Operation) where
   deposit_for (of.Opening o) takes e = absurd (cc)
   deposit_for (of.Segment k) takes e = absurd (cc)
 
-  pub deposited : (kind : Kind) (d : Deposit) → kind_of op ≡ Some kind → deposit_by refs op kind ≡ Some d → deposit_of refs op ≡ Some d
+  pub deposited : (kind : Kind) (d : Deposit) → content_kind op ≡ Some kind → deposit_by refs op kind ≡ Some d → deposit_of refs op ≡ Some d
   unfolding deposit_of
   deposited kind d is e = ap (option_and_then (deposit_by refs op)) is ∙ e
 

@@ -20,7 +20,7 @@ use Rattle.dep_bag.specs.declared.part.TagFile.{TagFile}
 use Rattle.dep_bag.specs.declared.part.TagFile.TheVariants as tag
 use Rattle.dep_bag.proofs.Lines.{All-none}
 use Rattle.dep_bag.proofs.Numbered.{HasStorable, files_storable, found_by_number, none_by_number, numbered}
-use Rattle.dep_answers.specs.Answers.{Document, ReplyContent, StoredContent, answer, shown_file}
+use Rattle.dep_answers.specs.Answers.{Document, ReplyContent, StoredContent, answer, file_reply}
 use Rattle.dep_answers.specs.Bags.{BagEntry, bag_entries, payload_shown, shown_in_bag, tags_shown}
 use Rattle.dep_answers.specs.ReadSets.{files_view, payload_view, shown_at, read_set_in_bag, tag_read_set}
 use Rattle.dep_answers.specs.Reporting.{IsShownByRow, IsTagView, view_by}
@@ -43,7 +43,7 @@ tags_unnumbered : (o : Object) → All HasNoNumber (tags_shown o)
 tags_unnumbered o = All-none has_number (tags_shown o) refl
 
 abbrev pub content_shown : ℕ → ℕ × File → ReplyContent
-content_shown n e = shown_file n e.0 e.1
+content_shown n e = file_reply n e.0 e.1
 
 module _ (path : List ℕ) (f : ℕ) (of : file_number path ≡ Some f) where
   unnamed : (e : BagEntry) → HasNoNumber e → bytes_eq path e.0 ≡ false
@@ -92,7 +92,7 @@ module _ (path : List ℕ) (f : ℕ) (of : file_number path ≡ Some f) where
     stands it = bytes_eq path (payload_path f it.name)
 
     -- the file stands there
-    pub there_answer : (it : File) → file_at s n f ≡ Some it → stands it ≡ true → answer 200 (Some (shown_file n f it)) None None ≡ bag_answer s n path
+    pub there_answer : (it : File) → file_at s n f ≡ Some it → stands it ≡ true → answer 200 (Some (file_reply n f it)) None None ≡ bag_answer s n path
     there_answer it is at =
         sym (ap (λ b. answer 200 (option_map (content_shown n) (if b then Some (f, it) else None)) None None) at) ∙ answered (Some it) is
 

@@ -6,9 +6,9 @@ use Rattle.dep_types.specs.State.{State, File, file_at}
 use Rattle.dep_types.specs.Rows.{file_row}
 use Rattle.dep_types.specs.declared.rows.FileRow.{FileRow}
 use Rattle.dep_reply.specs.Head.{ReplyHead, head_text}
-use Rattle.dep_answers.specs.Answers.{Answer, PlainText, ReplyContent, bytes_of, document_of, media_of, shown_file, stored_of, answer, head_of, is_silent}
+use Rattle.dep_answers.specs.Answers.{Answer, PlainText, ReplyContent, bytes_of, document_of, media_of, file_reply, stored_of, answer, head_of, is_silent}
 use Rattle.dep_answers.specs.Replies.{unless_head_only, front_text, source_shown, stored_text}
-use Rattle.dep_answers.specs.Performing.{HasEnd, HasStatus, IsReply, file_id, measured_head, stored_in, stored_behind, stored_file}
+use Rattle.dep_answers.specs.Performing.{HasEnd, HasStatus, IsReply, file_id, measured_head, stored_in, stored_behind, file_of_row}
 use Rattle.dep_answers.specs.Reporting.{SaysLength}
 use Rattle.dep_answers.specs.declared.performed.Delivery.{Delivery}
 use Rattle.dep_answers.specs.declared.performed.FileId.{FileId}
@@ -91,12 +91,12 @@ sized_behind false (b ∷ content) it e = e
 pub stored_ready : (s : State) (file : File) (row : FileRow) (tag : Option ℕ) (delivery : Delivery) (p : Performed)
     → file_at s row.object row.file ≡ Some file → row ≡ file_row row.object row.file file
     → p.front.items ≡ head_text (head_by row tag delivery)
-    → p.stored ≡ stored_behind delivery.is_head_only file.content (stored_file row)
-    → IsReply s (answer 200 (Some (shown_file row.object row.file file)) tag None) delivery p
+    → p.stored ≡ stored_behind delivery.is_head_only file.content (file_of_row row)
+    → IsReply s (answer 200 (Some (file_reply row.object row.file file)) tag None) delivery p
 unfolding front_text stored_text source_shown
 stored_ready s file row tag delivery p there is front stored =
-    let it = stored_file row in
-    let shown = answer 200 (Some (shown_file row.object row.file file)) tag None in
+    let it = file_of_row row in
+    let shown = answer 200 (Some (file_reply row.object row.file file)) tag None in
     record {
       front = front ∙ ap (λ (r : FileRow). head_text (head_by r tag delivery)) is
           ∙ sym (append-nil (head_text (head_by (file_row row.object row.file file) tag delivery)))

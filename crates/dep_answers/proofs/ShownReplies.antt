@@ -10,7 +10,7 @@ use Rattle.dep_types.specs.declared.config.Config.{Config}
 use Rattle.dep_types.specs.declared.target.Method.{Method}
 use Rattle.dep_types.specs.declared.target.Method.TheVariants.{Get, Head, Post, Put, Delete}
 use Rattle.dep_types.specs.declared.target.Resource.{Resource}
-use Rattle.dep_answers.specs.Answers.{Answer, answer, is_silent, shown_file}
+use Rattle.dep_answers.specs.Answers.{Answer, answer, is_silent, file_reply}
 use Rattle.dep_answers.specs.Bags.{shown_in_bag}
 use Rattle.dep_answers.specs.Performing.{IsReply, Says}
 use Rattle.dep_answers.specs.Replies.{answer_to, shown_answer}
@@ -46,14 +46,14 @@ file_in n f row (Some file) e = (file, (refl, cc e))
 -- what the reply with a row's content says
 abbrev pub SaysRow : FileRow → Option ℕ → Delivery → Performed → Type 0
 SaysRow row tag delivery p = (s : State) (file : File) → file_at s row.object row.file ≡ Some file
-    → row ≡ file_row row.object row.file file → IsReply s (answer 200 (Some (shown_file row.object row.file file)) tag None) delivery p
+    → row ≡ file_row row.object row.file file → IsReply s (answer 200 (Some (file_reply row.object row.file file)) tag None) delivery p
 
 pub says_row : (row : FileRow) (tag : Option ℕ) (delivery : Delivery) (p : Performed) → SaysRow row tag delivery p
     → (s : State) (n f : ℕ) (file : File) → file_at s n f ≡ Some file → row ≡ file_row n f file
-    → IsReply s (answer 200 (Some (shown_file n f file)) tag None) delivery p
+    → IsReply s (answer 200 (Some (file_reply n f file)) tag None) delivery p
 says_row row tag delivery p says s n f file there is =
-    replies_as s (answer 200 (Some (shown_file row.object row.file file)) tag None) (answer 200 (Some (shown_file n f file)) tag None) delivery p
-    (ap (λ (r : FileRow). answer 200 (Some (shown_file r.object r.file file)) tag None) is)
+    replies_as s (answer 200 (Some (file_reply row.object row.file file)) tag None) (answer 200 (Some (file_reply n f file)) tag None) delivery p
+    (ap (λ (r : FileRow). answer 200 (Some (file_reply r.object r.file file)) tag None) is)
     (says s file (ap (λ (r : FileRow). file_at s r.object r.file) is ∙ there)
     (is ∙ ap (λ (r : FileRow). file_row r.object r.file file) (sym is)))
 
@@ -65,9 +65,9 @@ file_reply_is s id row sh delivery p is e says =
     let file : File = found.0 in
     let there : file_at s id.object id.file ≡ Some file = found.1.0 in
     let of : row ≡ file_row id.object id.file file = found.1.1 in
-    replies_as s (answer 200 (Some (shown_file id.object id.file file)) (Some row.tag) None) (file_answer s id) delivery p
-    (ap (λ (r : FileRow). answer 200 (Some (shown_file id.object id.file file)) (Some r.tag) None) of
-    ∙ ap (λ (o : Option File). answer 200 (option_map (shown_file id.object id.file) o) (option_map (λ (x : File). x.tag) o) None) (sym there))
+    replies_as s (answer 200 (Some (file_reply id.object id.file file)) (Some row.tag) None) (file_answer s id) delivery p
+    (ap (λ (r : FileRow). answer 200 (Some (file_reply id.object id.file file)) (Some r.tag) None) of
+    ∙ ap (λ (o : Option File). answer 200 (option_map (file_reply id.object id.file) o) (option_map (λ (x : File). x.tag) o) None) (sym there))
     (says_row row (Some row.tag) delivery p says s id.object id.file file there of)
 
 pub no_file : (n f : ℕ) (sh : Shown) (o : Option File) → ((row : FileRow) → sh ≡ shown.File row → ⊥)

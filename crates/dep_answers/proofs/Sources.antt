@@ -18,7 +18,7 @@ use Rattle.dep_decisions.specs.Rules.{refusal}
 use Rattle.dep_decisions.specs.declared.operation.Operation.{Operation}
 use Rattle.dep_bag.specs.Numbered.{file_number}
 use Rattle.dep_bag.proofs.Numbered.{files_storable, numbered, represents_at}
-use Rattle.dep_answers.specs.Answers.{Document, PlainText, ReplyContent, StoredContent, shown_file, source_of}
+use Rattle.dep_answers.specs.Answers.{Document, PlainText, ReplyContent, StoredContent, file_reply, source_of}
 use Rattle.dep_answers.specs.Bags.{shown_in_bag}
 use Rattle.dep_answers.specs.Laws.{file_read}
 use Rattle.dep_answers.specs.Replies.{answer_to, content_at, last_object, last_upload, source_shown}
@@ -72,7 +72,7 @@ module _ (s : State) (sound : IsSound s) (id : FileId) where
 
   -- ---- by the resource and the method
 
-  file_source : (n f : ℕ) (x : Option File) → source_of (option_map (shown_file n f) x) ≡ Some id → file_read (at.File n f) ≡ Some id
+  file_source : (n f : ℕ) (x : Option File) → source_of (option_map (file_reply n f) x) ≡ Some id → file_read (at.File n f) ≡ Some id
   file_source n f None e = absurd (cc)
   file_source n f (Some it) e = e
 

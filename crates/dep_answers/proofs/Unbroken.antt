@@ -20,7 +20,7 @@ use Rattle.dep_reply.proofs.LineLemmas.{unbroken_both, unbroken_decimal, unbroke
 use Rattle.dep_reply.proofs.BaseLemmas.{unbroken_base}
 use Rattle.dep_docs_out.specs.Documents.{object_url, upload_url}
 use Rattle.dep_bag.proofs.Keys.{entries-held}
-use Rattle.dep_answers.specs.Answers.{Answer, ReplyContent, Document, media_of, head_of, shown_file}
+use Rattle.dep_answers.specs.Answers.{Answer, ReplyContent, Document, media_of, head_of, file_reply}
 use Rattle.dep_answers.specs.Bags.{BagEntry, bag_entries, payload_shown, shown_in_bag}
 use Rattle.dep_answers.specs.Replies.{content_at, shown_answer, status_answer, answer_to, refused_answer, last_object, last_upload}
 
@@ -46,7 +46,7 @@ file_media s sound n o there f file held = unbroken_media file.media ((sound.obj
 
 file_content : (s : State) → IsSound s → (n f : ℕ) (o : Option Object) → finmap.get s.objects n ≡ o → (x : Option File)
     → option_and_then (λ (y : Object). finmap.get y.files f) o ≡ x
-    → IfSome (option_map (shown_file n f) x) (λ c. IsTrue (is_unbroken (media_of c)))
+    → IfSome (option_map (file_reply n f) x) (λ c. IsTrue (is_unbroken (media_of c)))
 file_content s sound n f o there None e = tt
 file_content s sound n f None there (Some file) e = absurd (cc)
 file_content s sound n f (Some o) there (Some file) e = file_media s sound n o there f file e

@@ -12,7 +12,7 @@ use Rattle.dep_moment.proofs.OnLiterals.{moment_on_literals}
 use Rattle.dep_reply.proofs.OnLiterals.{reply_on_literals}
 use Rattle.dep_docs_out.specs.Documents.{status_document, upload_document, object_url, status_data, object_members, links_data, state_members, actions_data, part_data, link_data, deposit_members, relations_data, kept_members, states_data, segments_data, upload_data}
 use Rattle.dep_docs_out.specs.ExampleDocuments.{example_config, example_object, example_file, status_text, upload_text}
-use Rattle.dep_answers.specs.Answers.{Answer, Document, StoredContent, answer, shown_file}
+use Rattle.dep_answers.specs.Answers.{Answer, Document, StoredContent, answer, file_reply}
 use Rattle.dep_answers.specs.Replies.{answer_to, front_text, stored_text}
 use Rattle.dep_answers.specs.Examples.{example_state, example_staged, created_reply, upload_reply, file_head, changed_reply}
 
@@ -64,7 +64,7 @@ shown_is =
     ∙ shown_by
 
 file_answer : answer_to example_config example_state (at.File 1 1) Get ≡ answer 200 (Some (StoredContent (record { object = 1; file = 1 }) (codes "text/plain") (codes "abc"))) (Some 1) None
-file_answer = λ i. answer 200 (option_map (shown_file 1 1) (file i)) (option_map (λ (f : File). f.tag) (file i)) None
+file_answer = λ i. answer 200 (option_map (file_reply 1 1) (file i)) (option_map (λ (f : File). f.tag) (file i)) None
 
 file_by : (is_head_only : Bool) → front_text (answer 200 (Some (StoredContent (record { object = 1; file = 1 }) (codes "text/plain") (codes "abc"))) (Some 1) None) 1523836800 is_head_only false ≡ file_head
 unfolding front_text reply_on_literals

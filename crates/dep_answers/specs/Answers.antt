@@ -12,8 +12,8 @@ pub data ReplyContent : Type 0 where
   StoredContent : (id : FileId) → (media bytes : List ℕ) → ReplyContent
 
 -- a file of this number of an object
-abbrev pub shown_file : (object number : ℕ) → File → ReplyContent
-shown_file n f file = StoredContent (record { object = n; file = f }) file.media file.content
+abbrev pub file_reply : (object number : ℕ) → File → ReplyContent
+file_reply n f file = StoredContent (record { object = n; file = f }) file.media file.content
 
 -- its media type (RFC 9110, section 8.3)
 abbrev pub media_of : ReplyContent → List ℕ

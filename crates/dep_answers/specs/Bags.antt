@@ -7,7 +7,7 @@ use Rattle.dep_docs_out.specs.Documents.{bag_metadata_document}
 use Rattle.dep_manifest.specs.TagFiles.{bagit_text, info_text}
 use Rattle.dep_bag.specs.Bag.{oxum, payload, listed_files}
 use Rattle.dep_manifest.specs.Manifest.{sha256_digest, sha512_digest, manifest_of}
-use Rattle.dep_answers.specs.Answers.{ReplyContent, Document, PlainText, shown_file}
+use Rattle.dep_answers.specs.Answers.{ReplyContent, Document, PlainText, file_reply}
 
 -- a path, and what is shown there
 abbrev pub BagEntry : Type 0
@@ -27,7 +27,7 @@ tags_shown o =
 
 -- a file of the object of this number, under its own media type
 abbrev pub payload_shown : ℕ → ℕ × File → BagEntry
-payload_shown n e = (payload_path e.0 e.1.name, shown_file n e.0 e.1)
+payload_shown n e = (payload_path e.0 e.1.name, file_reply n e.0 e.1)
 
 -- the files of the bag, in the order of its list
 abbrev pub bag_entries : ℕ → Object → List BagEntry

@@ -73,5 +73,5 @@ stored_behind false [] it = None
 stored_behind false (b ∷ content) it = Some it
 
 -- the file of a row
-abbrev pub stored_file : FileRow → StoredFile
-stored_file row = record { object = row.object; file = row.file; size = row.size }
+abbrev pub file_of_row : FileRow → StoredFile
+file_of_row row = record { object = row.object; file = row.file; size = row.size }

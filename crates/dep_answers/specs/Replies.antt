@@ -15,7 +15,7 @@ use Rattle.dep_reply.specs.Head.{head_text}
 use Rattle.dep_docs_out.specs.Documents.{service_document, status_document, metadata_document, upload_document, error_document, object_url, upload_url}
 use Rattle.dep_bag.specs.Bag.{list_text}
 use Rattle.dep_decisions.specs.LookUps.{tag_at}
-use Rattle.dep_answers.specs.Answers.{Answer, ReplyContent, Document, PlainText, document_of, stored_of, source_of, shown_file, answer, head_of}
+use Rattle.dep_answers.specs.Answers.{Answer, ReplyContent, Document, PlainText, document_of, stored_of, source_of, file_reply, answer, head_of}
 use Rattle.dep_answers.specs.Bags.{shown_in_bag}
 use Rattle.dep_answers.specs.declared.performed.FileId.{FileId}
 
@@ -26,8 +26,8 @@ abbrev pub status_at : Config → State → ℕ → Option ReplyContent
 status_at config s n =
     option_map (λ o. Document (status_document config (object_view n o))) (finmap.get s.objects n)
 
-abbrev pub metadata_at : Config → State → ℕ → Option ReplyContent
-metadata_at config s n =
+abbrev pub metadata_content : Config → State → ℕ → Option ReplyContent
+metadata_content config s n =
     option_map (λ o. Document (metadata_document config n o.metadata)) (finmap.get s.objects n)
 
 -- the document of an upload, of which the segments with these numbers were received
@@ -41,8 +41,8 @@ upload_at config s u =
 abbrev pub content_at : Config → State → Resource → Option ReplyContent
 content_at config s Service = Some (Document (service_document config))
 content_at config s (Object n) = status_at config s n
-content_at config s (Metadata n) = metadata_at config s n
-content_at config s (File n f) = option_map (shown_file n f) (file_at s n f)
+content_at config s (Metadata n) = metadata_content config s n
+content_at config s (File n f) = option_map (file_reply n f) (file_at s n f)
 content_at config s (Upload u) = upload_at config s u
 content_at config s (BagList n) =
     option_map (λ o. PlainText (list_text (bag_paths o))) (finmap.get s.objects n)

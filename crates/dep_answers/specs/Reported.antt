@@ -12,7 +12,7 @@ use Rattle.dep_docs_out.specs.Documents.{service_document, status_document, meta
 use Rattle.dep_docs_out.specs.Segments.{ordered_upload_document}
 use Rattle.dep_bag.specs.Bag.{list_text}
 use Rattle.dep_bag.specs.Parts.{reported_paths}
-use Rattle.dep_answers.specs.Answers.{Answer, ReplyContent, Document, PlainText, answer, shown_file}
+use Rattle.dep_answers.specs.Answers.{Answer, ReplyContent, Document, PlainText, answer, file_reply}
 use Rattle.dep_answers.specs.Bags.{shown_in_bag}
 use Rattle.dep_answers.specs.declared.answer.Form.{Form}
 use Rattle.dep_answers.specs.declared.answer.Form.TheVariants as form
@@ -98,7 +98,7 @@ reported_change config method resource sh = answer 204 None None None
 abbrev pub file_answer : State → FileId → Answer
 file_answer s id =
     answer 200
-    (option_map (shown_file id.object id.file) (file_at s id.object id.file))
+    (option_map (file_reply id.object id.file) (file_at s id.object id.file))
     (option_map (λ file. file.tag) (file_at s id.object id.file)) None
 
 -- what stands at a path of an object's bag

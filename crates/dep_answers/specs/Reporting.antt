@@ -14,7 +14,7 @@ use Rattle.dep_bag.specs.Numbered.{file_number}
 use Rattle.dep_bag.specs.Parts.{tag_file_at}
 use Rattle.dep_bag.specs.declared.part.TagFile.{TagFile}
 use Rattle.dep_bag.specs.declared.part.TagFile.TheVariants as tag
-use Rattle.dep_answers.specs.Answers.{answer, PlainText, shown_file}
+use Rattle.dep_answers.specs.Answers.{answer, PlainText, file_reply}
 use Rattle.dep_answers.specs.Bags.{shown_in_bag}
 use Rattle.dep_answers.specs.Performing.{IsReply, Says}
 use Rattle.dep_answers.specs.Replies.{answer_to}
@@ -77,4 +77,4 @@ SaysLength size delivery p = delivery.is_head_only ≡ true → (s : State) (tex
 abbrev pub IsContentOf : FileRow → (tag : Option ℕ) → Delivery → Performed → Type 0
 IsContentOf row tag delivery p = (s : State) (file : File)
     → file_at s row.object row.file ≡ Some file → row ≡ file_row row.object row.file file
-    → IsReply s (answer 200 (Some (shown_file row.object row.file file)) tag None) delivery p
+    → IsReply s (answer 200 (Some (file_reply row.object row.file file)) tag None) delivery p

@@ -1,7 +1,7 @@
 //! Replies with the content of a stored file.
 ghost use Rattle.std.specs.Prelude.{◌≡◌, IfOk, IfSome, Some, None, ℕ, List, length};
 ghost use Rattle.dep_types.specs.State.{State};
-ghost use Rattle.dep_answers.specs.Performing.{HasEnd, Says, stored_behind, stored_file};
+ghost use Rattle.dep_answers.specs.Performing.{HasEnd, Says, stored_behind, file_of_row};
 ghost use Rattle.dep_answers.specs.ReadSets.{shown_at};
 ghost use Rattle.dep_answers.specs.Reported.{file_answer};
 ghost use Rattle.dep_answers.specs.Reporting.{IsContentOf};
@@ -53,7 +53,7 @@ pub(crate) fn stored_reply(
 // The content of the file, unless the reply has no body or the file is empty.
 fn content_behind(row: &FileRow, is_head_only: bool) -> Option<StoredFile>
     ensures { (content : List ℕ) → length content ≡ row.now.size
-        → result ≡ stored_behind is_head_only content (stored_file row.now) }
+        → result ≡ stored_behind is_head_only content (file_of_row row.now) }
 {
     if is_head_only || row.size == 0 {
         None

@@ -28,14 +28,14 @@ use Rattle.dep_slot.specs.declared.limits.Limits.{Limits as Bounds}
 use Rattle.dep_sockets.specs.Acceptors.{AcceptorState, EndsHub, WentOn}
 use Rattle.dep_application.specs.declared.host_log.StandardErrorLog.{StandardErrorLog}
 use Rattle.dep_configuration.specs.declared.configuration.ServerLimits.{ServerLimits}
-use Rattle.dep_commands.specs.Reserved.{call_log_of, condition_of}
+use Rattle.dep_commands.specs.Reserved.{reserved_call_log, reserved_condition}
 use Rattle.dep_application.specs.Hosted.{HostStore, LedBy, IsHosted, HostsDatabase, hosts, host_limits, left_alone, not_checked, not_made, not_opened, unshown}
 
 module _ {S : Type 0} (g : Ghosts S) (clean : (h : Held S) → IsTrue (state g h).is_open → HasCleanDisk (state g h))
     (settled : (h : Held S) → IsTrue (state g h).is_open → IsSettled (state g h)) (given : Held S) (config : Config) (opened : Hub (HostStore S))
-    (is : IsOpened (condition_of g) config (state g given) opened) where
+    (is : IsOpened (reserved_condition g) config (state g given) opened) where
   led : (hub : Hub (HostStore S)) → hub.config ≡ config → (first : State) (records : List Record) (actions : List HostAction)
-      → RepresentsBehind (condition_of g) hub first records (λ n. []) actions → LedBy config (state g hub.store.archive.store) first records actions
+      → RepresentsBehind (reserved_condition g) hub first records (λ n. []) actions → LedBy config (state g hub.store.archive.store) first records actions
   led hub same first records actions it =
       let run : Run config first (records ++ it.more) it.represents.world = subst (λ (c : Config). Run c first (records ++ it.more) it.represents.world) same it.represents.run in
       record {
@@ -50,7 +50,7 @@ module _ {S : Type 0} (g : Ghosts S) (clean : (h : Held S) → IsTrue (state g h
             (l.0, l.1, subst (λ (s : State). Run config first ((records ++ it.more) ++ stopped ∷ []) (first_world s)) (sym l.2) (stops run));
       }
 
-  hosted_by : (store : HostStore S) (actions : List HostAction) → WentOn (condition_of g) opened store actions → IsHosted config (state g given) (state g store.archive.store) actions
+  hosted_by : (store : HostStore S) (actions : List HostAction) → WentOn (reserved_condition g) opened store actions → IsHosted config (state g given) (state g store.archive.store) actions
   hosted_by store actions it =
       subst (λ (a : HostStore S). IsHosted config (state g given) (state g a.archive.store) actions) (sym it.over) (record {
         fresh = λ is_open none. led it.new (it.same_config ∙ is.configured) empty_state [] actions
@@ -62,11 +62,11 @@ module _ {S : Type 0} (g : Ghosts S) (clean : (h : Held S) → IsTrue (state g h
   module _ {R K P : Type 0} (unread : R → Option (List ℕ)) (taken : K → Option (List ℕ)) (held : P → Option (List ℕ)) (size : P → ℕ) (causes : Causes R K P) where
     -- what was done over the hub is done over its database
     pub over_hub : {before after : AcceptorState R K P} {limits : ServerLimits} {bounds : Bounds} {log_before log_after : StandardErrorLog} (store : HostStore S) (back : Held S) (actions : List HostAction) (outcome : Outcome) → back ≡ store.archive.store
-        → bounds ≡ host_limits limits → EndsHub (condition_of g) (call_log_of g) unread taken held size causes unshown before after log_before log_after bounds opened store actions outcome → WentOn (condition_of g) opened store actions
+        → bounds ≡ host_limits limits → EndsHub (reserved_condition g) (reserved_call_log g) unread taken held size causes unshown before after log_before log_after bounds opened store actions outcome → WentOn (reserved_condition g) opened store actions
         → HostsDatabase g unread taken held size causes before after limits config given back outcome
     over_hub {before = before} {after = after} {limits = limits} {log_before = log_before} {log_after = log_after} store back actions outcome same bounded it went =
         hosts opened store actions log_before log_after
-        (subst (λ (b : Bounds). EndsHub (condition_of g) (call_log_of g) unread taken held size causes unshown before after log_before log_after b opened store actions outcome) bounded it)
+        (subst (λ (b : Bounds). EndsHub (reserved_condition g) (reserved_call_log g) unread taken held size causes unshown before after log_before log_after b opened store actions outcome) bounded it)
         is same (subst (λ (h : Held S). IsHosted config (state g given) (state g h) actions) (sym same) (hosted_by store actions went))
 
 -- nobody was served

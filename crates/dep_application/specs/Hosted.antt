@@ -8,13 +8,13 @@ use Rattle.dep_types.specs.State.{State, empty_state}
 use Rattle.dep_types.specs.Config.{IsChecked}
 use Rattle.dep_types.specs.declared.config.Config.{Config}
 use Rattle.dep_schema.specs.OpenTables.{HoldsNone}
-use Rattle.dep_schema.specs.States.{Represents, IsLeftAs, Leaves}
+use Rattle.dep_schema.specs.States.{Represents, IsLeftAs, DatabaseLeaves}
 use Rattle.dep_store.specs.Migrating.{Keeps}
 use Rattle.dep_store.specs.declared.archive.HashingStore.{HashingStore}
 use Rattle.dep_reserve.specs.declared.reserved_archive.ReservedArchive.{ReservedArchive}
 use Rattle.dep_application.specs.declared.logged_reserve.LoggedReserve.{LoggedReserve}
 use Rattle.dep_commands.specs.Starting.{IsOpened, OpeningLeaves}
-use Rattle.dep_commands.specs.Reserved.{call_log_of, condition_of}
+use Rattle.dep_commands.specs.Reserved.{reserved_call_log, reserved_condition}
 use Rattle.dep_exchange.specs.Records.{World, Record, Run, first_world, stopped}
 use Rattle.dep_hub.specs.declared.hub.Hub.{Hub}
 use Rattle.dep_slot.specs.Causes.{Causes}
@@ -42,7 +42,7 @@ pub record LedBy (config : Config) (d : db.State) (first : State) (records : Lis
   pub world : World
   pub run : Run config first (records ++ more) world
   pub represents : Represents d world.state
-  pub stop : Leaves d (λ left. Run config first ((records ++ more) ++ stopped ∷ []) (first_world left))
+  pub stop : DatabaseLeaves d (λ left. Run config first ((records ++ more) ++ stopped ∷ []) (first_world left))
 
 -- It went on from the initial state over an empty database, and over one that a store left from all
 -- records that may have led to what was left.
@@ -77,9 +77,9 @@ module _ {S R K P : Type 0} (g : Ghosts S) (unread : R → Option (List ℕ)) (t
     -- it was served from a hub over the store, and the machine went on with what was done
     hosts : {outcome : Outcome} (hub : Hub (HostStore S)) (left : HostStore S) (actions : List HostAction)
         (log_before log_after : StandardErrorLog)
-        → EndsHub (condition_of g) (call_log_of g) unread taken held size causes unshown before
+        → EndsHub (reserved_condition g) (reserved_call_log g) unread taken held size causes unshown before
         after log_before log_after (host_limits limits) hub left actions outcome
-        → IsOpened (condition_of g) config (state g given) hub
+        → IsOpened (reserved_condition g) config (state g given) hub
         → back ≡ left.archive.store
         → IsHosted config (state g given) (state g back) actions
         → HostsDatabase before after limits config given back outcome

@@ -6,7 +6,7 @@ use Rattle.std.specs.Prelude.{Result}
 use Rattle.std.specs.Result.{IsErrAnd}
 use Rattle.dep_types.specs.Sinks.{IsPrefix, file_begun, file_ended, file_given}
 use Rattle.dep_types.specs.Writing.{HasRisen, TakesPart}
-use Rattle.dep_bag.specs.Giving.{IsGivenAt, IsGiven, IsCausedBy, HasCause, SinkState, IsGivenTo}
+use Rattle.dep_bag.specs.Giving.{IsGivenAt, IsGiven, IsCausedBy, AccountsForFailures, SinkState, IsGivenTo}
 use Rattle.dep_bag.specs.declared.export_fault.ExportFault.{ExportFault}
 use Rattle.dep_bag.specs.declared.export_fault.ExportFault.TheVariants.{NoSuchObject, Sink, Store, Memory}
 
@@ -77,13 +77,13 @@ caused_later before now after Sink same cause = subst (λ n. HasRisen n after) s
 caused_later before now after _ same cause = cause ∙ same
 
 -- a result has its cause also where the count is told from before what was given
-pub cause_later : {X : Type 0} (before now after : ℕ) (r : Result X ExportFault) → now ≡ before → HasCause r now after → HasCause r before after
+pub cause_later : {X : Type 0} (before now after : ℕ) (r : Result X ExportFault) → now ≡ before → AccountsForFailures r now after → AccountsForFailures r before after
 cause_later before now after (Ok x) same cause = cause ∙ same
 cause_later before now after (Err fault) same cause = caused_later before now after fault same cause
 
 -- and so where the fault is passed on
 pub cause_passed : {X : Type 0} (before now after : ℕ) (r : Result X ExportFault) (e : ExportFault) → now ≡ before
-    → IsCausedBy e now after → IsErrAnd r (λ x. x ≡ e) → HasCause r before after
+    → IsCausedBy e now after → IsErrAnd r (λ x. x ≡ e) → AccountsForFailures r before after
 cause_passed before now after (Ok x) e same cause err = absurd err
 cause_passed before now after (Err x) e same cause err = subst (λ f. IsCausedBy f before after) (sym err) (caused_later before now after e same cause)
 

@@ -34,9 +34,9 @@ IsCausedBy Store failures failures_after = failures_after ≡ failures
 IsCausedBy Memory failures failures_after = failures_after ≡ failures
 
 -- and it stayed where there is no fault
-abbrev pub HasCause : {X : Type 0} → Result X ExportFault → (failures failures_after : ℕ) → Type 0
-HasCause (Ok x) failures failures_after = failures_after ≡ failures
-HasCause (Err fault) failures failures_after = IsCausedBy fault failures failures_after
+abbrev pub AccountsForFailures : {X : Type 0} → Result X ExportFault → (failures failures_after : ℕ) → Type 0
+AccountsForFailures (Ok x) failures failures_after = failures_after ≡ failures
+AccountsForFailures (Err fault) failures failures_after = IsCausedBy fault failures failures_after
 
 -- what is known of a sink: what it took, where it shows it, and how many of its writes failed
 pub record SinkState : Type 0 where
@@ -49,7 +49,7 @@ pub record IsGivenTo {X : Type 0} (old new : SinkState) (whole : List ℕ)
   pub given : List ℕ
   pub appends : Appends old.taken new.taken given
   pub is : IsGiven whole given result
-  pub cause : HasCause result old.failures new.failures
+  pub cause : AccountsForFailures result old.failures new.failures
 
 -- What was given as a source streams it: it is so in each state for which the source stood, and a
 -- fault, which isn't that the object isn't there, has its cause. The source stands still.
@@ -59,7 +59,7 @@ pub record IsStreamedTo {X : Type 0} (stood represents : Condition) (old new : S
   pub given : List ℕ
   pub appends : Appends old.taken new.taken given
   pub is : OfEachState stood represents (λ s. holds s given result)
-  pub cause : HasCause result old.failures new.failures
+  pub cause : AccountsForFailures result old.failures new.failures
   pub kept : KeepsStanding stood represents result
   pub still : StandsStill stood represents
   pub there : result ≢ Err NoSuchObject
@@ -70,15 +70,15 @@ module _ {K : Type 0} (taken : K → Option (List ℕ)) (failures : K → ℕ) w
   state_of sink = record { taken = taken sink; failures = failures sink }
 
   -- this was given to a sink
-  abbrev pub Gives : {X : Type 0} → (old new : K) → (whole : List ℕ) → Result X ExportFault
+  abbrev pub GivesWhole : {X : Type 0} → (old new : K) → (whole : List ℕ) → Result X ExportFault
       → Type 0
-  Gives old new whole result = IsGivenTo (state_of old) (state_of new) whole result
+  GivesWhole old new whole result = IsGivenTo (state_of old) (state_of new) whole result
 
   -- and this as a source streams it
-  abbrev pub Streams : {X S : Type 0} → (S → Condition) → (stood represents : S) → (old new : K)
+  abbrev pub StreamsFrom : {X S : Type 0} → (S → Condition) → (stood represents : S) → (old new : K)
       → (State → (given : List ℕ) → Result X ExportFault → Type 0) → Result X ExportFault
       → Type 0
-  Streams condition stood represents old new holds result = IsStreamedTo (condition stood)
+  StreamsFrom condition stood represents old new holds result = IsStreamedTo (condition stood)
       (condition represents) (state_of old) (state_of new) holds result
 
 -- the folder of the payload, and the files that a tag manifest names

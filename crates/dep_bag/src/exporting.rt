@@ -2,7 +2,7 @@
 ghost use Rattle.std.specs.Prelude.{◌≡◌, Err};
 ghost use Rattle.std.specs.Io.KnownBytes.{Keeps};
 ghost use Rattle.dep_bag.specs.Source.{GivesFrom, KeepsStanding, StandsStill};
-ghost use Rattle.dep_bag.specs.Giving.{HasCause};
+ghost use Rattle.dep_bag.specs.Giving.{AccountsForFailures};
 ghost use Rattle.dep_bag.specs.Exports.{IsExported};
 
 use crate::export_fault::ExportFault;
@@ -24,7 +24,7 @@ pub fn export<S: BagSource, K: BagSink>(
         (K.taken sink.old) (K.taken sink.new) (λ s given. IsExported s object given result) }
     ensures absent { result ≡ Err ExportFault.NoSuchObject →
         Keeps (K.taken sink.old) (K.taken sink.new) }
-    ensures cause { HasCause result (K.failures sink.old) (K.failures sink.new) }
+    ensures cause { AccountsForFailures result (K.failures sink.old) (K.failures sink.new) }
     ensures kept { KeepsStanding (S.condition source.old) (S.condition source.new) result }
     ensures still { StandsStill (S.condition source.old) (S.condition source.new) }
 {

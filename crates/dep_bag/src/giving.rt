@@ -1,8 +1,8 @@
 //! Files that are given to a sink, one after another.
 ghost use Rattle.std.specs.Prelude.{ℕ, List};
 ghost use Rattle.dep_types.specs.Sinks.{file_given};
-ghost use Rattle.dep_docs_out.specs.Made.{Makes};
-ghost use Rattle.dep_bag.specs.Giving.{Gives, Streams, IsContentGiven, AreContentsGiven, listed_transcript, manifests_transcript, tag_transcript};
+ghost use Rattle.dep_docs_out.specs.Made.{MakesItems};
+ghost use Rattle.dep_bag.specs.Giving.{GivesWhole, StreamsFrom, IsContentGiven, AreContentsGiven, listed_transcript, manifests_transcript, tag_transcript};
 
 use crate::export_fault::ExportFault;
 use crate::source::BagSource;
@@ -21,7 +21,7 @@ pub(crate) fn give_tag_files<K: BagSink>(
     view: &ObjectView,
     sink: &mut K,
 ) -> Result<(), ExportFault>
-    ensures { Gives K.taken K.failures sink.old sink.new (tag_transcript view.now) result }
+    ensures { GivesWhole K.taken K.failures sink.old sink.new (tag_transcript view.now) result }
 {
     give_listed(alloc, view, sink)?;
     give_tag_manifests(alloc, view, sink)
@@ -33,7 +33,7 @@ fn give_listed<K: BagSink>(
     view: &ObjectView,
     sink: &mut K,
 ) -> Result<(), ExportFault>
-    ensures { Gives K.taken K.failures sink.old sink.new (listed_transcript view.now) result }
+    ensures { GivesWhole K.taken K.failures sink.old sink.new (listed_transcript view.now) result }
 {
     sink.folder("data")?;
     give_text(sink, BAGIT, declaration(alloc))?;
@@ -57,7 +57,7 @@ fn give_tag_manifests<K: BagSink>(
     view: &ObjectView,
     sink: &mut K,
 ) -> Result<(), ExportFault>
-    ensures { Gives K.taken K.failures sink.old sink.new
+    ensures { GivesWhole K.taken K.failures sink.old sink.new
         (manifests_transcript view.now) result }
 {
     let TagManifests { sha256, sha512 } = both_tag_manifests(alloc, view)?;
@@ -71,8 +71,8 @@ fn give_text<K: BagSink>(
     path: &str,
     made: Result<Vec<u8>, AllocError>,
 ) -> Result<(), ExportFault>
-    ensures { (bytes : List ℕ) → Makes made bytes
-        → Gives K.taken K.failures sink.old sink.new (file_given (path.now, bytes)) result }
+    ensures { (bytes : List ℕ) → MakesItems made bytes
+        → GivesWhole K.taken K.failures sink.old sink.new (file_given (path.now, bytes)) result }
 {
     let text = made?;
     sink.begin(path)?;
@@ -88,7 +88,7 @@ pub(crate) fn give_payload<S: BagSource, K: BagSink>(
     rows: &[FileRow],
     sink: &mut K,
 ) -> Result<(), ExportFault>
-    ensures { Streams K.taken K.failures S.condition source.old source.new sink.old sink.new
+    ensures { StreamsFrom K.taken K.failures S.condition source.old source.new sink.old sink.new
         (AreContentsGiven rows.now) result }
 {
     for row in rows {
@@ -104,7 +104,7 @@ fn give_stored<S: BagSource, K: BagSink>(
     row: &FileRow,
     sink: &mut K,
 ) -> Result<(), ExportFault>
-    ensures { Streams K.taken K.failures S.condition source.old source.new sink.old sink.new
+    ensures { StreamsFrom K.taken K.failures S.condition source.old source.new sink.old sink.new
         (IsContentGiven row.now) result }
 {
     let path = payload_path(alloc, row)?;

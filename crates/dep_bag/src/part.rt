@@ -1,6 +1,6 @@
 //! What stands at a path of a bag.
 ghost use Rattle.std.specs.Prelude.{◌≡◌, IfOk, bytes_eq, map};
-ghost use Rattle.dep_docs_out.specs.Made.{Makes};
+ghost use Rattle.dep_docs_out.specs.Made.{MakesItems};
 ghost use Rattle.dep_bag.specs.Parts.{part_at, stored_part, tag_file_at, tag_text, reported_part};
 
 use crate::paths::is_payload_path;
@@ -90,7 +90,7 @@ fn is_at(path: &[u8], place: &str) -> bool
 
 // The text of a tag file.
 fn tag_text(alloc: Global, view: &ObjectView, file: TagFile) -> Result<Vec<u8>, AllocError>
-    ensures { Makes result (tag_text view.now file) }
+    ensures { MakesItems result (tag_text view.now file) }
 {
     match file {
         TagFile::Declaration => declaration(alloc),

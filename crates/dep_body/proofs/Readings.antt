@@ -7,7 +7,7 @@ use Rattle.std.specs.Char.{digit_value}
 use Rattle.std.specs.Str.Parse.{digits_value, digits_value_after}
 use Rattle.dep_octets.specs.Octets.{capped, is_token_octet}
 use Rattle.dep_body.specs.Lines.{line_size, is_hex_octet, begins_extension, is_extension_octet, is_extension, is_trailer_line, is_trailer_value, is_trailer_octet}
-use Rattle.dep_body.specs.Reading.{with_digit, size_after, size_reading, Says, trailer_after, trailer_reading, Reports}
+use Rattle.dep_body.specs.Reading.{with_digit, size_after, size_reading, SaysSize, trailer_after, trailer_reading, ReportsTrailer}
 use Rattle.dep_body.specs.declared.size.SizeReading.TheVariants.{Digits, Extension, Malformed}
 use Rattle.dep_body.specs.declared.trailers.TrailerReading as T
 use Rattle.dep_body.specs.declared.trailers.TrailerReading.TheVariants as V
@@ -62,9 +62,9 @@ size_from-other n b line f = ap (λ k. size_at n k (b ∷ line)) (count_none is_
 
 -- a reading that goes on behind the digits for n with a byte that is none
 other_from : (most n : ℕ) (b : ℕ) (line : List ℕ) (begun : Bool) → begins_extension b ≡ begun
-    → Says most (fold (size_after most) (if begun then Extension (capped most n) else Malformed) line)
+    → SaysSize most (fold (size_after most) (if begun then Extension (capped most n) else Malformed) line)
     (if begun && list_all is_extension_octet line then Some n else None)
-other_from most n b line false e = subst (λ r. Says most r None) (sym (malformed_stays most line)) refl
+other_from most n b line false e = subst (λ r. SaysSize most r None) (sym (malformed_stays most line)) refl
 other_from most n b line true e =
     let goes = extension_from most (capped most n) line in
     elim (cases_Bool (list_all is_extension_octet line)) [
@@ -72,7 +72,7 @@ other_from most n b line true e =
       | inr f ↦ rw (goes, f) refl
     ]
 
-digits_from : (most n : ℕ) (line : List ℕ) → Says most (fold (size_after most) (Digits (capped most n)) line) (size_from n line)
+digits_from : (most n : ℕ) (line : List ℕ) → SaysSize most (fold (size_after most) (Digits (capped most n)) line) (size_from n line)
 unfolding size_from
 digits_from most n [] = (n, refl, refl)
 digits_from most n (b ∷ line) =
@@ -101,7 +101,7 @@ unfolding line_size line_at
 line_size-other b line f = ap (λ k. line_at k (b ∷ line)) (count_none is_hex_octet b line f)
 
 -- the reading of a line says its value
-pub size_said : (most : ℕ) (line : List ℕ) → Says most (size_reading most line) (line_size line)
+pub size_said : (most : ℕ) (line : List ℕ) → SaysSize most (size_reading most line) (line_size line)
 size_said most [] = line_size-nil
 size_said most (b ∷ line) =
     elim (cases_Bool (is_hex_octet b)) [
@@ -174,14 +174,14 @@ trailer-nil : is_trailer_line [] ≡ false
 unfolding is_trailer_line
 trailer-nil = refl
 
-name_reports : (r : T.TrailerReading) (b : ℕ) (line : List ℕ) → is_token_octet b ≡ true → NameSays r line → Reports r (b ∷ line)
+name_reports : (r : T.TrailerReading) (b : ℕ) (line : List ℕ) → is_token_octet b ≡ true → NameSays r line → ReportsTrailer r (b ∷ line)
 name_reports V.Empty b line t h = absurd h
 name_reports V.Name b line t h = (omega arith, trailer-token b line t ∙ h)
 name_reports V.Value b line t h = (omega arith, trailer-token b line t ∙ h)
 name_reports V.Broken b line t h = (omega arith, trailer-token b line t ∙ h)
 
 -- the reading of a trailer line tells whether it is one
-pub trailer_reported : (line : List ℕ) → Reports (trailer_reading line) line
+pub trailer_reported : (line : List ℕ) → ReportsTrailer (trailer_reading line) line
 trailer_reported [] = (refl, trailer-nil)
 trailer_reported (b ∷ line) =
     elim (cases_Bool (is_token_octet b)) [

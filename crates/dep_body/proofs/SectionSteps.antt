@@ -6,7 +6,7 @@ use Rattle.std.proofs.lemmas.List.Elements.{All-append, All-cons, All-nil}
 use Rattle.std.proofs.lemmas.List.Folds.{list_all-append}
 use Rattle.dep_body.specs.Lines.{crlf, line_text, is_trailer_line}
 use Rattle.dep_body.specs.Body.{IsSizeLine, HasChunks, IsTrailer, lines_text, IsSection, IsChunkedBody, IsChunkedFault, long_trailers, bad_trailers, section_limit}
-use Rattle.dep_body.specs.Reading.{trailer_after, trailer_reading, next_trailer, Reports}
+use Rattle.dep_body.specs.Reading.{trailer_after, trailer_reading, next_trailer, ReportsTrailer}
 use Rattle.dep_body.specs.Standing.{IsBegunLine, IsInTrailers, IsBehindLines, IsSizedLine}
 use Rattle.dep_body.specs.declared.frame.FrameFault.TheVariants.{Bad}
 use Rattle.dep_body.specs.declared.trailers.Trailers.{Trailers}
@@ -93,8 +93,8 @@ ended_length limit content text state h cr =
     ∙ one_longer limit content text state 10 h
 
 reported : (limit : ℕ) (content text : List ℕ) (state : Trailers) (r : T.TrailerReading) → (h : IsInTrailers limit content state text)
-    → state.reading ≡ r → Reports r h.line
-reported limit content text state r h e = subst (λ q. Reports q h.line) (sym h.reading_is ∙ e) (trailer_reported h.line)
+    → state.reading ≡ r → ReportsTrailer r h.line
+reported limit content text state r h e = subst (λ q. ReportsTrailer q h.line) (sym h.reading_is ∙ e) (trailer_reported h.line)
 
 whole : (limit : ℕ) (content text : List ℕ) (state : Trailers) → (h : IsInTrailers limit content state text) → state.after_cr ≡ true
     → h.line ≡ [] → IsSection (lines_text h.lines ++ crlf) h.lines

@@ -5,7 +5,7 @@ use Rattle.std.proofs.lemmas.Bool.Decides.{nat_tests}
 use Rattle.dep_octets.specs.Octets.{capped}
 use Rattle.dep_body.specs.Lines.{line_text, line_size}
 use Rattle.dep_body.specs.Body.{HasChunks, IsChunkedFault, long_line, bad_line, large_chunk, bad_end, line_limit}
-use Rattle.dep_body.specs.Reading.{size_after, size_reading, next_size, Says}
+use Rattle.dep_body.specs.Reading.{size_after, size_reading, next_size, SaysSize}
 use Rattle.dep_body.specs.Standing.{IsBegunLine, IsInLine, IsAtLineEnd, IsSizedLine, IsBehindData}
 use Rattle.dep_body.specs.declared.frame.FrameFault.TheVariants.{Bad, TooLarge}
 use Rattle.dep_body.specs.declared.size.SizeLine.{SizeLine}
@@ -95,7 +95,7 @@ line_ended limit content text state h cr =
       chunks = chunks_rest limit _ content _ _ (begun_text h.rest h.line begun) (chunks_more limit text content h.rest (10 ∷ []) h.chunks);
       ends = begun_line h.rest h.line begun;
       short = omega (arith, begun_length h.rest h.line begun, h.short);
-      said = subst (λ r. Says limit r (line_size h.line)) (sym h.reading_is) (size_said limit h.line);
+      said = subst (λ r. SaysSize limit r (line_size h.line)) (sym h.reading_is) (size_said limit h.line);
     }
 
 -- a chunk line that says nothing

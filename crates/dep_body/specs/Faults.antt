@@ -4,6 +4,6 @@ use Rattle.dep_body.specs.declared.frame.FrameFault.{FrameFault}
 use Rattle.dep_body.specs.declared.frame.FrameFault.TheVariants.{Bad, TooLarge}
 
 -- the number of each reason why a body is refused, 1 or 2
-abbrev pub fault_number : FrameFault → ℕ
-fault_number Bad = 1
-fault_number TooLarge = 2
+abbrev pub frame_fault_number : FrameFault → ℕ
+frame_fault_number Bad = 1
+frame_fault_number TooLarge = 2

@@ -51,15 +51,15 @@ next_trailer reading after_cr b =
     if b == 13 then all else trailer_after all b
 
 -- what a reading says of the line's value
-abbrev pub Says : ℕ → SizeReading → Option ℕ → Type 0
-Says most Start size = size ≡ None
-Says most (Digits value) size = (n : ℕ) × (size ≡ Some n) × (value ≡ capped most n)
-Says most (Extension value) size = (n : ℕ) × (size ≡ Some n) × (value ≡ capped most n)
-Says most Malformed size = size ≡ None
+abbrev pub SaysSize : ℕ → SizeReading → Option ℕ → Type 0
+SaysSize most Start size = size ≡ None
+SaysSize most (Digits value) size = (n : ℕ) × (size ≡ Some n) × (value ≡ capped most n)
+SaysSize most (Extension value) size = (n : ℕ) × (size ≡ Some n) × (value ≡ capped most n)
+SaysSize most Malformed size = size ≡ None
 
 -- what a reading says of a trailer line
-abbrev pub Reports : T.TrailerReading → List ℕ → Type 0
-Reports V.Empty line = (line ≡ []) × (is_trailer_line line ≡ false)
-Reports V.Name line = (0 < length line) × (is_trailer_line line ≡ false)
-Reports V.Value line = (0 < length line) × (is_trailer_line line ≡ true)
-Reports V.Broken line = (0 < length line) × (is_trailer_line line ≡ false)
+abbrev pub ReportsTrailer : T.TrailerReading → List ℕ → Type 0
+ReportsTrailer V.Empty line = (line ≡ []) × (is_trailer_line line ≡ false)
+ReportsTrailer V.Name line = (0 < length line) × (is_trailer_line line ≡ false)
+ReportsTrailer V.Value line = (0 < length line) × (is_trailer_line line ≡ true)
+ReportsTrailer V.Broken line = (0 < length line) × (is_trailer_line line ≡ false)

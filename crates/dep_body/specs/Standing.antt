@@ -5,7 +5,7 @@ use Rattle.std.specs.Option.{option_to_list}
 use Rattle.dep_octets.specs.Octets.{capped}
 use Rattle.dep_body.specs.Lines.{line_end, line_text, line_size, IsLine, is_trailer_line}
 use Rattle.dep_body.specs.Body.{line_limit, section_limit, IsSizeLine, HasChunks, IsTrailer, lines_text, IsChunkedBody, IsChunkedFault}
-use Rattle.dep_body.specs.Reading.{size_reading, trailer_reading, Says}
+use Rattle.dep_body.specs.Reading.{size_reading, trailer_reading, SaysSize}
 use Rattle.dep_body.specs.declared.size.SizeLine.{SizeLine}
 use Rattle.dep_body.specs.declared.size.SizeReading.{SizeReading}
 use Rattle.dep_body.specs.declared.trailers.Trailers.{Trailers}
@@ -91,7 +91,7 @@ pub record IsAtLineEnd (limit : ℕ) (content : List ℕ) (reading : SizeReading
   pub chunks : HasChunks limit text content (line_text line)
   pub ends : IsLine line
   pub short : length line + 2 ≤ line_limit
-  pub said : Says limit reading (line_size line)
+  pub said : SaysSize limit reading (line_size line)
 
 -- at the end of a chunk line of this value, which is None where it is above the limit
 pub record IsSizedLine (limit : ℕ) (content : List ℕ) (size : ℕ) (value : Option ℕ) (text : List ℕ)

@@ -1,6 +1,6 @@
 //! What frames a body.
 ghost use Rattle.std.specs.Prelude.{◌≡◌};
-ghost use Rattle.dep_body.specs.Faults.{fault_number};
+ghost use Rattle.dep_body.specs.Faults.{frame_fault_number};
 
 use std::error::Error;
 use std::fmt;
@@ -28,7 +28,7 @@ pub enum FrameFault {
 impl FrameFault {
     /// The number of the fault: 1 or 2.
     pub fn number(self) -> u8
-        ensures { result ≡ fault_number self }
+        ensures { result ≡ frame_fault_number self }
     {
         match self {
             FrameFault::Bad => 1,

@@ -11,13 +11,13 @@ use Rattle.dep_tables.specs.Tables.{Tables}
 use Rattle.dep_row_maps.specs.TablesAre.{TablesAre, with_object}
 use Rattle.dep_row_maps.proofs.Lens.{get_left, insert_again, insert_twice}
 use Rattle.dep_decisions.specs.Rules.{occurs_twice}
-use Rattle.dep_decisions.specs.Effects.{added, added_from, bytes_from, file_from, upload_of, uploads_of, without}
-use Rattle.dep_decisions.specs.declared.decision.Source.{Source}
-use Rattle.dep_decisions.specs.declared.decision.Source.TheVariants.{Posted, Assembled}
+use Rattle.dep_decisions.specs.Effects.{files_added, added_from, bytes_from, file_from, upload_of, uploads_of, without}
+use Rattle.dep_decisions.specs.declared.decision.ContentSource.{ContentSource}
+use Rattle.dep_decisions.specs.declared.decision.ContentSource.TheVariants.{Posted, Assembled}
 use Rattle.dep_decisions.specs.declared.decision.NewFile.{NewFile}
 use Rattle.dep_operations.specs.declared.view.UploadView.{UploadView}
 use Rattle.dep_changes.specs.Reported.{IsSource, AreSources}
-use Rattle.dep_changes.specs.Changed.{made_file, with_new_file}
+use Rattle.dep_changes.specs.Changed.{made_file, with_deposited_file}
 
 -- ---- files
 
@@ -111,7 +111,7 @@ not_before (y ∷ xs) (suc i) x u once at is = go (upload_of y.source) once (λ 
 -- the object has the new files beside its own, and their uploads are gone
 abbrev pub with_new_files : State → (content : List ℕ) → (n : ℕ) → Object → List NewFile → State
 with_new_files s content n o new = record s {
-  objects = finmap.insert s.objects n (record o { files = added s content new o.files });
+  objects = finmap.insert s.objects n (record o { files = files_added s content new o.files });
   uploads = without s.uploads (uploads_of new);
 }
 
@@ -131,42 +131,42 @@ module _ (s : State) (content : List ℕ) (seen : List UploadView) (n : ℕ) (o 
   state_before = with_new_files s content n o (take i all)
 
   abbrev pub object_before : Object
-  object_before = record o { files = added s content (take i all) o.files }
+  object_before = record o { files = files_added s content (take i all) o.files }
 
   upload_before : (u : ℕ) → upload_of x.source ≡ Some u → finmap.get (without s.uploads (uploads_of (take i all))) u ≡ finmap.get s.uploads u
   upload_before u is = still_there s.uploads (uploads_of (take i all)) u (not_before all i x u sources.1 at is)
 
-  source_by : (source : Source) → x.source ≡ source → IsSource s content (slice_get seen i) source → IsSource state_before content (slice_get seen i) source
+  source_by : (source : ContentSource) → x.source ≡ source → IsSource s content (slice_get seen i) source → IsSource state_before content (slice_get seen i) source
   source_by (Posted digests) is reported = reported
   source_by (Assembled u) is reported = record { upload = reported.upload; there = upload_before u (ap upload_of is) ∙ reported.there; whole = reported.whole; seen_so = reported.seen_so }
 
   pub its_source : IsSource state_before content (slice_get seen i) x.source
   its_source = source_by x.source refl (sources.0 i x at)
 
-  bytes_by : (source : Source) → x.source ≡ source → bytes_from state_before content source ≡ bytes_from s content source
+  bytes_by : (source : ContentSource) → x.source ≡ source → bytes_from state_before content source ≡ bytes_from s content source
   bytes_by (Posted digests) is = refl
   bytes_by (Assembled u) is = ap (λ (found : Option Upload). option_map_or assembled found []) (upload_before u (ap upload_of is))
 
   its_file : file_from state_before content x ≡ file_from s content x
   its_file = ap (made_file s x) (bytes_by x.source refl)
 
-  pub one_more : (t : Tables) (place : ℕ) → place ≡ s.next.file + i → TablesAre t (with_new_file state_before n object_before place (file_from state_before content x) x.source)
+  pub one_more : (t : Tables) (place : ℕ) → place ≡ s.next.file + i → TablesAre t (with_deposited_file state_before n object_before place (file_from state_before content x) x.source)
       → TablesAre t (with_new_files s content n o (take (i + 1) all))
   one_more t place is are =
       let uploads : without (without s.uploads (uploads_of (take i all))) (option_to_list (upload_of x.source)) ≡ without s.uploads (uploads_of (take (i + 1) all)) =
       sym (without_both s.uploads (uploads_of (take i all)) (option_to_list (upload_of x.source)))
       ∙ ap (without s.uploads) (sym (used_last (take i all) x))
       ∙ ap (λ (new : List NewFile). without s.uploads (uploads_of new)) (sym (take_next all i x at)) in
-      let files : finmap.insert (added s content (take i all) o.files) place (file_from state_before content x) ≡ added s content (take (i + 1) all) o.files =
-      ap (finmap.insert (added s content (take i all) o.files) place) its_file
-      ∙ ap (λ (k : ℕ). finmap.insert (added s content (take i all) o.files) k (file_from s content x)) (is ∙ ap (λ (k : ℕ). s.next.file + k) (sym (length_before all i x at)))
+      let files : finmap.insert (files_added s content (take i all) o.files) place (file_from state_before content x) ≡ files_added s content (take (i + 1) all) o.files =
+      ap (finmap.insert (files_added s content (take i all) o.files) place) its_file
+      ∙ ap (λ (k : ℕ). finmap.insert (files_added s content (take i all) o.files) k (file_from s content x)) (is ∙ ap (λ (k : ℕ). s.next.file + k) (sym (length_before all i x at)))
       ∙ sym (added_last s.next.file s content (take i all) x o.files)
-      ∙ ap (λ (new : List NewFile). added s content new o.files) (sym (take_next all i x at)) in
-      let objects : finmap.insert (finmap.insert s.objects n object_before) n (record o { files = finmap.insert (added s content (take i all) o.files) place (file_from state_before content x) })
-      ≡ finmap.insert s.objects n (record o { files = added s content (take (i + 1) all) o.files }) =
-      insert_twice s.objects n object_before (record o { files = finmap.insert (added s content (take i all) o.files) place (file_from state_before content x) })
+      ∙ ap (λ (new : List NewFile). files_added s content new o.files) (sym (take_next all i x at)) in
+      let objects : finmap.insert (finmap.insert s.objects n object_before) n (record o { files = finmap.insert (files_added s content (take i all) o.files) place (file_from state_before content x) })
+      ≡ finmap.insert s.objects n (record o { files = files_added s content (take (i + 1) all) o.files }) =
+      insert_twice s.objects n object_before (record o { files = finmap.insert (files_added s content (take i all) o.files) place (file_from state_before content x) })
       ∙ ap (λ (fs : Numbered File). finmap.insert s.objects n (record o { files = fs })) files in
-      subst (λ (us : Numbered Upload). TablesAre t (record s { objects = finmap.insert s.objects n (record o { files = added s content (take (i + 1) all) o.files }); uploads = us })) uploads
+      subst (λ (us : Numbered Upload). TablesAre t (record s { objects = finmap.insert s.objects n (record o { files = files_added s content (take (i + 1) all) o.files }); uploads = us })) uploads
       (subst (λ (m : Numbered Object). TablesAre t (record s { objects = m; uploads = without (without s.uploads (uploads_of (take i all))) (option_to_list (upload_of x.source)) })) objects are)
 
 -- no file yet
@@ -178,8 +178,8 @@ none_yet t s content n o there are = subst (λ (m : Numbered Object). TablesAre 
 pub new_files_again : (t : Tables) (s : State) (content : List ℕ) (k n : ℕ) (was o : Object) (new : List NewFile) → k ≡ n → TablesAre t (with_new_files (with_object s n was) content k o new) → TablesAre t (with_new_files s content n o new)
 new_files_again t s content k n was o new same are =
     let files = added_alike (finmap.insert s.objects n was) s.next.file s content new o.files in
-    let objects : finmap.insert (finmap.insert s.objects n was) k (record o { files = added (with_object s n was) content new o.files }) ≡ finmap.insert s.objects n (record o { files = added s content new o.files }) =
-    ap (λ (m : ℕ). finmap.insert (finmap.insert s.objects n was) m (record o { files = added (with_object s n was) content new o.files })) same
-    ∙ insert_twice s.objects n was (record o { files = added (with_object s n was) content new o.files })
+    let objects : finmap.insert (finmap.insert s.objects n was) k (record o { files = files_added (with_object s n was) content new o.files }) ≡ finmap.insert s.objects n (record o { files = files_added s content new o.files }) =
+    ap (λ (m : ℕ). finmap.insert (finmap.insert s.objects n was) m (record o { files = files_added (with_object s n was) content new o.files })) same
+    ∙ insert_twice s.objects n was (record o { files = files_added (with_object s n was) content new o.files })
     ∙ ap (λ (fs : Numbered File). finmap.insert s.objects n (record o { files = fs })) files in
     subst (λ (m : Numbered Object). TablesAre t (record s { objects = m; uploads = without s.uploads (uploads_of new) })) objects are

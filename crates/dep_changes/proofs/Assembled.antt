@@ -17,11 +17,11 @@ use Rattle.dep_staging.specs.Assembling.{deposited}
 use Rattle.dep_staging.specs.Changing.{Assembles}
 use Rattle.dep_decisions.specs.Effects.{bytes_from, file_from, is_reference}
 use Rattle.dep_decisions.specs.declared.decision.NewFile.{NewFile}
-use Rattle.dep_decisions.specs.declared.decision.Source.{Source}
-use Rattle.dep_decisions.specs.declared.decision.Source.TheVariants.{Assembled, Posted}
-use Rattle.dep_changes.specs.Clauses.{PutsFile}
+use Rattle.dep_decisions.specs.declared.decision.ContentSource.{ContentSource}
+use Rattle.dep_decisions.specs.declared.decision.ContentSource.TheVariants.{Assembled, Posted}
+use Rattle.dep_changes.specs.Clauses.{DepositsFile}
 use Rattle.dep_changes.specs.Reported.{IsSource, ReportsNewFile, ReportsNumbers, whole_view}
-use Rattle.dep_changes.specs.Changed.{IsExtent, made_file, new_row, with_new_file}
+use Rattle.dep_changes.specs.Changed.{IsExtent, made_file, new_row, with_deposited_file}
 use Rattle.dep_changes.specs.declared.change.Change.{Change}
 use Rattle.dep_changes.specs.declared.new_files.Extent.{Extent}
 use Rattle.dep_changes.specs.declared.new_files.FileNumbers.{FileNumbers}
@@ -54,14 +54,14 @@ done_as Done s n f u o it file row up row_is up_is at_o at_u call =
 -- ---- a new file is put in, by its source
 
 -- what is said of a file by the source that it has is said by this one
-by_source : (now : db.State) (r : Result (Unit {0}) StoreFault) (s : State) (n f : ℕ) (o : Object) (file : File) (own source : Source) → own ≡ source
-    → OnOk r (SeesState now (with_new_file s n o f file source)) → OnOk r (SeesState now (with_new_file s n o f file own))
-by_source now r s n f o file own source is = subst (λ (from : Source). OnOk r (SeesState now (with_new_file s n o f file from))) (sym is)
+by_source : (now : db.State) (r : Result (Unit {0}) StoreFault) (s : State) (n f : ℕ) (o : Object) (file : File) (own source : ContentSource) → own ≡ source
+    → OnOk r (SeesState now (with_deposited_file s n o f file source)) → OnOk r (SeesState now (with_deposited_file s n o f file own))
+by_source now r s n f o file own source is = subst (λ (from : ContentSource). OnOk r (SeesState now (with_deposited_file s n o f file from))) (sym is)
 
 module _ {T L : Type 0} {lenders : T → L} {state : T → db.State} {old now : T} {r : Result (Unit {0}) StoreFault} (change : Change) (numbers : FileNumbers) (new : NewFile) (index : ℕ) (row : FileRow)
     (row_is : (s : State) → ReportsNewFile change s index new.source → row ≡ file_row numbers.object numbers.file (file_from s change.content.now new)) where
   -- the content of the request
-  pub posted_put : (digests : Digests) → new.source ≡ Posted digests → ChangesMaps lenders state old now r (edits.PutsFile row digests.sha512 change.content.now) → PutsFile lenders state old now r change numbers new index new.source
+  pub posted_put : (digests : Digests) → new.source ≡ Posted digests → ChangesMaps lenders state old now r (edits.PutsFile row digests.sha512 change.content.now) → DepositsFile lenders state old now r change numbers new index new.source
   posted_put digests is put = record {
     done = λ o clean inside ours s are reported.
         let file : File = file_from s change.content.now new in
@@ -75,7 +75,7 @@ module _ {T L : Type 0} {lenders : T → L} {state : T → db.State} {old now : 
 
   -- a whole upload
   pub upload_put : (u : ℕ) → new.source ≡ Assembled u → (up : WholeUpload) → ((k : ℕ) (it : Upload) → slice_get change.view.now.uploads index ≡ Some (whole_view k it) → (up.row ≡ upload_row k it) × (up.digests ≡ digests_of (assembled it)))
-      → ChangesMaps lenders state old now r (Assembles up.row row up.digests.sha512) → PutsFile lenders state old now r change numbers new index new.source
+      → ChangesMaps lenders state old now r (Assembles up.row row up.digests.sha512) → DepositsFile lenders state old now r change numbers new index new.source
   upload_put u is up tells put = record {
     done = λ o clean inside ours s are reported.
         let source = subst (IsSource s change.content.now (slice_get change.view.now.uploads index)) is reported.0.1 in

@@ -10,7 +10,7 @@ use Rattle.dep_types.specs.declared.rows.FileRow.{FileRow}
 use Rattle.dep_types.specs.declared.rows.ObjectRow.{ObjectRow}
 use Rattle.dep_types.specs.declared.rows.ObjectView.{ObjectView}
 use Rattle.dep_row_maps.proofs.Lens.{get_here}
-use Rattle.dep_decisions.specs.Effects.{added, appended, at, changed, effect_of, file_from, filled, ingested_by, with_files, with_texts}
+use Rattle.dep_decisions.specs.Effects.{files_added, appended, at, changed, effect_of, file_from, filled, ingested_by, with_other_files, with_other_texts}
 use Rattle.dep_decisions.specs.declared.decision.Decision.{Decision}
 use Rattle.dep_decisions.specs.declared.decision.Deposit.{Deposit}
 use Rattle.dep_decisions.specs.declared.decision.NewFile.{NewFile}
@@ -53,11 +53,11 @@ module _ (s : State) (content : List ℕ) (n : ℕ) (o : Kept) (there : finmap.g
       ap (λ (r : ObjectRow). Some (shown.ObjectRow r)) is
       ∙ sym (ap (λ (x : Option Kept). Some (option_map_or (λ (y : Kept). shown.ObjectRow (object_row n y)) x shown.Nothing)) (at_here s.objects n o f there))
 
-  pub texts_known : (texts : Texts) (row : ObjectRow) → row ≡ object_row n (with_texts s texts o) → Some (shown.ObjectRow row) ≡ known_shown s content (SetMetadata n texts)
-  texts_known texts row is = row_after (with_texts s texts) row is
+  pub texts_known : (texts : Texts) (row : ObjectRow) → row ≡ object_row n (with_other_texts s texts o) → Some (shown.ObjectRow row) ≡ known_shown s content (SetMetadata n texts)
+  texts_known texts row is = row_after (with_other_texts s texts) row is
 
-  pub files_known : (new : List NewFile) (row : ObjectRow) → row ≡ object_row n (with_files s (added s content new finmap.empty) o) → Some (shown.ObjectRow row) ≡ known_shown s content (SetFiles n new)
-  files_known new row is = row_after (with_files s (added s content new finmap.empty)) row is
+  pub files_known : (new : List NewFile) (row : ObjectRow) → row ≡ object_row n (with_other_files s (files_added s content new finmap.empty) o) → Some (shown.ObjectRow row) ≡ known_shown s content (SetFiles n new)
+  files_known new row is = row_after (with_other_files s (files_added s content new finmap.empty)) row is
 
   pub replaced_known : (d : Deposit) (ingests : Bool) (reported : ObjectView) → reported ≡ files_view n (filled s content d (o.ingested || ingests))
       → Some (shown.Files reported) ≡ known_shown s content (Replace n d ingests)
@@ -68,7 +68,7 @@ module _ (s : State) (content : List ℕ) (n : ℕ) (o : Kept) (there : finmap.g
   pub file_known : (f : ℕ) (new : NewFile) (row : FileRow) → row ≡ file_row n f (file_from s content new) → Some (shown.File row) ≡ known_shown s content (SetFile n f new)
   file_known f new row is =
       let file = file_from s content new in
-      let after = λ (y : Kept). with_files s (finmap.insert y.files f file) y in
+      let after = λ (y : Kept). with_other_files s (finmap.insert y.files f file) y in
       let found : option_and_then (λ (y : Kept). finmap.get y.files f) (finmap.get (at s.objects n after) n) ≡ Some file =
       ap (option_and_then (λ (y : Kept). finmap.get y.files f)) (at_here s.objects n o after there) ∙ get_here o.files f file in
       ap (λ (r : FileRow). Some (shown.File r)) is

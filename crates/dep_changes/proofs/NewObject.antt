@@ -18,8 +18,8 @@ use Rattle.dep_fixity.specs.Fixity.{digests_of}
 use Rattle.dep_fixity.specs.declared.hasher.Digests.{Digests}
 use Rattle.dep_row_maps.proofs.Files.{entries-empty}
 use Rattle.dep_decisions.specs.Effects.{added_from, blank, bytes_from, file_from, filled}
-use Rattle.dep_decisions.specs.declared.decision.Source.{Source}
-use Rattle.dep_decisions.specs.declared.decision.Source.TheVariants.{Posted, Assembled}
+use Rattle.dep_decisions.specs.declared.decision.ContentSource.{ContentSource}
+use Rattle.dep_decisions.specs.declared.decision.ContentSource.TheVariants.{Posted, Assembled}
 use Rattle.dep_decisions.specs.declared.decision.Deposit.{Deposit}
 use Rattle.dep_decisions.specs.declared.decision.Deposit.TheVariants.{Files, Metadata}
 use Rattle.dep_decisions.specs.declared.decision.NewFile.{NewFile}
@@ -31,14 +31,14 @@ use Rattle.dep_changes.proofs.Added.{length_before, take_next}
 
 -- ---- how many bytes a file has
 
-abbrev pub HasExtent : State → (content : List ℕ) → Source → (size : ℕ) → Digests → Type 0
+abbrev pub HasExtent : State → (content : List ℕ) → ContentSource → (size : ℕ) → Digests → Type 0
 HasExtent s content source size digests = IsExtent (record { size = size; digests = digests }) (bytes_from s content source)
 
-module _ (s : State) (content : List ℕ) (seen : Option UploadView) (source : Source) where
+module _ (s : State) (content : List ℕ) (seen : Option UploadView) (source : ContentSource) where
   pub posted_extent : (digests : Digests) (bytes : List ℕ) → source ≡ Posted digests → bytes ≡ content → IsSource s content seen source → HasExtent s content source (length bytes) digests
   posted_extent digests bytes is same reported =
       let has : IsSource s content seen (Posted digests) = subst (IsSource s content seen) is reported in
-      subst (λ (x : Source). HasExtent s content x (length bytes) digests) (sym is) (ap (λ (b : List ℕ). length b) same, has)
+      subst (λ (x : ContentSource). HasExtent s content x (length bytes) digests) (sym is) (ap (λ (b : List ℕ). length b) same, has)
 
   pub whole_extent : (u : ℕ) (row : UploadRow) (digests : Digests) → source ≡ Assembled u
       → ((w : ℕ) (it : Upload) → seen ≡ Some (whole_view w it) → (row ≡ upload_row w it) × (digests ≡ digests_of (assembled it)))
@@ -47,7 +47,7 @@ module _ (s : State) (content : List ℕ) (seen : Option UploadView) (source : S
       let has : IsSource s content seen (Assembled u) = subst (IsSource s content seen) is reported in
       let its = found u has.upload has.seen_so in
       let bytes : bytes_from s content (Assembled u) ≡ assembled has.upload = ap (λ (x : Option Upload). option_map_or assembled x []) has.there in
-      subst (λ (x : Source). HasExtent s content x row.size digests) (sym is) (
+      subst (λ (x : ContentSource). HasExtent s content x row.size digests) (sym is) (
         ap (λ (r : UploadRow). r.size) its.0 ∙ sym has.whole.size ∙ ap (λ (b : List ℕ). length b) (sym bytes),
         its.1 ∙ ap digests_of (sym bytes),
       )

@@ -13,7 +13,7 @@ use Rattle.dep_objects.specs.Objects.{Rewrites}
 use Rattle.dep_row_maps.specs.TablesAre.{TablesAre, metadata_at, files_at, with_object, without_object}
 use Rattle.dep_row_maps.proofs.Files.{same_number}
 use Rattle.dep_row_maps.proofs.Lens.{get_here, get_there, get_gone, get_left, insert_twice}
-use Rattle.dep_decisions.specs.Effects.{changed, ingested_by, with_files, with_texts}
+use Rattle.dep_decisions.specs.Effects.{changed, ingested_by, with_other_files, with_other_texts}
 use Rattle.dep_operations.specs.declared.view.View.{View}
 use Rattle.dep_changes.specs.Reported.{ReportsNumbers, ReportsObject}
 
@@ -30,10 +30,10 @@ texts_of s n o there = sym (ap (λ x. option_map_or (λ (y : Object). y.metadata
 
 -- the row that is written in the place of an object's
 module _ (s : State) (n : ℕ) (o : Object) (row : ObjectRow) (was : row ≡ object_row n o) (clock : ℕ) (next : Counters) (at_clock : clock ≡ s.clock) (at_next : next ≡ s.next) (now : ObjectRow) where
-  pub texts_of_row : (texts : Texts) → now ≡ record row { object_tag = next.change; metadata_tag = next.change; changed = clock } → now ≡ object_row n (with_texts s texts o)
+  pub texts_of_row : (texts : Texts) → now ≡ record row { object_tag = next.change; metadata_tag = next.change; changed = clock } → now ≡ object_row n (with_other_texts s texts o)
   texts_of_row texts is = cc
 
-  pub files_of_row : (files : Numbered File) → now ≡ record row { object_tag = next.change; files_tag = next.change; changed = clock } → now ≡ object_row n (with_files s files o)
+  pub files_of_row : (files : Numbered File) → now ≡ record row { object_tag = next.change; files_tag = next.change; changed = clock } → now ≡ object_row n (with_other_files s files o)
   files_of_row files is = cc
 
 -- the row of the object that is touched, and the row that is written in its place
@@ -48,10 +48,10 @@ module _ (s : State) (n : ℕ) (o : Object) (seen : Option ObjectRow) (reported 
     pub completed_row : now ≡ record row { ingested = true; object_tag = next.change; changed = clock } → now ≡ object_row n (ingested_by true (changed s o))
     completed_row is = let was = row_is in let yes = or_true o.ingested in cc
 
-    pub texts_row : (texts : Texts) → now ≡ record row { object_tag = next.change; metadata_tag = next.change; changed = clock } → now ≡ object_row n (with_texts s texts o)
+    pub texts_row : (texts : Texts) → now ≡ record row { object_tag = next.change; metadata_tag = next.change; changed = clock } → now ≡ object_row n (with_other_texts s texts o)
     texts_row texts is = texts_of_row s n o row row_is clock next at_clock at_next now texts is
 
-    pub files_row : (files : Numbered File) → now ≡ record row { object_tag = next.change; files_tag = next.change; changed = clock } → now ≡ object_row n (with_files s files o)
+    pub files_row : (files : Numbered File) → now ≡ record row { object_tag = next.change; files_tag = next.change; changed = clock } → now ≡ object_row n (with_other_files s files o)
     files_row files is = files_of_row s n o row row_is clock next at_clock at_next now files is
 
 -- a row that is that of an object under a number
@@ -87,12 +87,12 @@ row_written t s n was it row is there metadata files written = at_number t s row
 -- the object of the view has its new row, and else is as it was
 module _ (t : Tables) (s : State) (n : ℕ) (o : Object) (view : View) (object : ReportsObject view s n o) (numbers : ReportsNumbers view s) (row : ObjectRow) (found : view.object ≡ Some row) (now : ObjectRow) where
   pub texts_marked : now ≡ record row { object_tag = view.next.change; metadata_tag = view.next.change; changed = view.clock }
-      → (Rewrites s now (with_texts s o.metadata o) → TablesAre t (with_object s now.object (with_texts s o.metadata o))) → TablesAre t (with_object s n (with_texts s o.metadata o))
-  texts_marked is = row_written t s n o (with_texts s o.metadata o) now (texts_row s n o view.object object.0 row found view.clock view.next numbers.0 numbers.1 now o.metadata is) object.1 refl refl
+      → (Rewrites s now (with_other_texts s o.metadata o) → TablesAre t (with_object s now.object (with_other_texts s o.metadata o))) → TablesAre t (with_object s n (with_other_texts s o.metadata o))
+  texts_marked is = row_written t s n o (with_other_texts s o.metadata o) now (texts_row s n o view.object object.0 row found view.clock view.next numbers.0 numbers.1 now o.metadata is) object.1 refl refl
 
   pub files_marked : now ≡ record row { object_tag = view.next.change; files_tag = view.next.change; changed = view.clock }
-      → (Rewrites s now (with_files s o.files o) → TablesAre t (with_object s now.object (with_files s o.files o))) → TablesAre t (with_object s n (with_files s o.files o))
-  files_marked is = row_written t s n o (with_files s o.files o) now (files_row s n o view.object object.0 row found view.clock view.next numbers.0 numbers.1 now o.files is) object.1 refl refl
+      → (Rewrites s now (with_other_files s o.files o) → TablesAre t (with_object s now.object (with_other_files s o.files o))) → TablesAre t (with_object s n (with_other_files s o.files o))
+  files_marked is = row_written t s n o (with_other_files s o.files o) now (files_row s n o view.object object.0 row found view.clock view.next numbers.0 numbers.1 now o.files is) object.1 refl refl
 
 -- ---- an object goes
 
@@ -118,6 +118,6 @@ insert_removed {X} m k x = finmap.same_map nat_cmp_total finmap.nat_cmp-IsAntisy
     go q (inl is) = ap (finmap.get (finmap.insert (finmap.remove m k) k x)) is ∙ get_here (finmap.remove m k) k x ∙ sym (get_here m k x) ∙ ap (finmap.get (finmap.insert m k x)) (sym is)
     go q (inr apart) = get_there (finmap.remove m k) k x q apart ∙ get_left m k q apart ∙ sym (get_there m k x q apart)
 
-pub file_replaced : (t : Tables) (s : State) (n : ℕ) (o : Object) (f : ℕ) (file : File) → TablesAre t (with_object s n (with_files s (finmap.insert (finmap.remove o.files f) f file) o))
-    → TablesAre t (with_object s n (with_files s (finmap.insert o.files f file) o))
-file_replaced t s n o f file are = subst (λ (fs : Numbered File). TablesAre t (with_object s n (with_files s fs o))) (insert_removed o.files f file) are
+pub file_replaced : (t : Tables) (s : State) (n : ℕ) (o : Object) (f : ℕ) (file : File) → TablesAre t (with_object s n (with_other_files s (finmap.insert (finmap.remove o.files f) f file) o))
+    → TablesAre t (with_object s n (with_other_files s (finmap.insert o.files f file) o))
+file_replaced t s n o f file are = subst (λ (fs : Numbered File). TablesAre t (with_object s n (with_other_files s fs o))) (insert_removed o.files f file) are

@@ -7,8 +7,8 @@ use Rattle.dep_types.specs.Rows.{file_row}
 use Rattle.dep_types.specs.declared.rows.FileRow.{FileRow}
 use Rattle.dep_types.specs.declared.rows.ObjectRow.{ObjectRow}
 use Rattle.dep_fixity.specs.Fixity.{digests_of}
-use Rattle.dep_decisions.specs.Effects.{added, is_reference, objects_after, upload_of, uploads_after, uploads_in, without}
-use Rattle.dep_decisions.specs.declared.decision.Source.{Source}
+use Rattle.dep_decisions.specs.Effects.{files_added, is_reference, objects_after, upload_of, uploads_after, uploads_in, without}
+use Rattle.dep_decisions.specs.declared.decision.ContentSource.{ContentSource}
 use Rattle.dep_decisions.specs.declared.decision.NewFile.{NewFile}
 use Rattle.dep_decisions.specs.declared.decision.Deposit.{Deposit}
 use Rattle.dep_decisions.specs.declared.decision.Deposit.TheVariants.{Files, Metadata}
@@ -31,15 +31,15 @@ made_file s new bytes = record {
 }
 
 -- the object has the file, and the upload that its bytes were taken from is gone
-abbrev pub with_new_file : State → (n : ℕ) → Object → (f : ℕ) → File → Source → State
-with_new_file s n o f file source = record s {
+abbrev pub with_deposited_file : State → (n : ℕ) → Object → (f : ℕ) → File → ContentSource → State
+with_deposited_file s n o f file source = record s {
   objects = map.insert s.objects n (record o { files = map.insert o.files f file });
   uploads = without s.uploads (option_to_list (upload_of source));
 }
 
 -- the object with the deposit put in: new files beside its own, or these texts alone
 abbrev pub put_in : State → (content : List ℕ) → Deposit → Object → Object
-put_in s content (Files new) o = record o { files = added s content new o.files }
+put_in s content (Files new) o = record o { files = files_added s content new o.files }
 put_in s content (Metadata texts) o = record o { metadata = texts }
 
 -- the object is at its number, and the uploads that the deposit takes are gone
@@ -91,4 +91,4 @@ IsExtent extent bytes = (extent.size ≡ length bytes) × (extent.digests ≡ di
 -- the rows of new files that an object has alone, in their order
 abbrev pub new_rows : State → (content : List ℕ) → (n : ℕ) → List NewFile → List FileRow
 new_rows s content n new =
-    each (λ e. file_row n e.0 e.1) (map.entries (added s content new map.empty))
+    each (λ e. file_row n e.0 e.1) (map.entries (files_added s content new map.empty))

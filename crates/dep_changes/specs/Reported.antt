@@ -12,8 +12,8 @@ use Rattle.dep_staging.specs.Assembling.{HasItsSegments}
 use Rattle.dep_decisions.specs.LookUps.{repeats}
 use Rattle.dep_decisions.specs.Rules.{occurs_twice}
 use Rattle.dep_decisions.specs.Effects.{uploads_of}
-use Rattle.dep_decisions.specs.declared.decision.Source.{Source}
-use Rattle.dep_decisions.specs.declared.decision.Source.TheVariants.{Posted, Assembled}
+use Rattle.dep_decisions.specs.declared.decision.ContentSource.{ContentSource}
+use Rattle.dep_decisions.specs.declared.decision.ContentSource.TheVariants.{Posted, Assembled}
 use Rattle.dep_decisions.specs.declared.decision.NewFile.{NewFile}
 use Rattle.dep_decisions.specs.declared.decision.Deposit.{Deposit}
 use Rattle.dep_decisions.specs.declared.decision.Deposit.TheVariants.{Files, Metadata}
@@ -63,7 +63,7 @@ pub record IsSeenWhole (uploads : Numbered Upload) (u : ℕ) (seen : Option Uplo
   pub seen_so : seen ≡ Some (whole_view u upload)
 
 -- the bytes are the content, of which the digests are known, or those of the upload that is seen
-abbrev pub IsSource : State → (content : List ℕ) → Option UploadView → Source → Type 0
+abbrev pub IsSource : State → (content : List ℕ) → Option UploadView → ContentSource → Type 0
 IsSource s content seen (Posted digests) = digests ≡ digests_of content
 IsSource s content seen (Assembled u) = IsSeenWhole s.uploads u seen
 
@@ -83,12 +83,12 @@ abbrev pub HasItsSources : State → Change → Deposit → Type 0
 HasItsSources s change d = HasSources s change.content.now change.view.now.uploads d
 
 -- the bytes of the new file at this place are known
-abbrev pub ReportsSource : Change → State → (place : ℕ) → Source → Type 0
+abbrev pub ReportsSource : Change → State → (place : ℕ) → ContentSource → Type 0
 ReportsSource change s place source =
     IsSource s change.content.now (slice_get change.view.now.uploads place) source
 
 -- and so are the clock and the counters, of which the rest of it is made
-abbrev pub ReportsNewFile : Change → State → (place : ℕ) → Source → Type 0
+abbrev pub ReportsNewFile : Change → State → (place : ℕ) → ContentSource → Type 0
 ReportsNewFile change s place source =
     ReportsNumbers change.view.now s × ReportsSource change s place source
 

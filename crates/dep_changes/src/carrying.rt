@@ -5,7 +5,7 @@ ghost use Rattle.dep_types.specs.Numbers.{room_for};
 ghost use Rattle.dep_decisions.specs.Decisions.{numbers_for};
 ghost use Rattle.dep_decisions.specs.Effects.{effect_of};
 ghost use Rattle.dep_decisions.specs.declared.decision.Decision.TheVariants.{Show};
-ghost use Rattle.dep_changes.specs.Clauses.{CarriesOut, Makes};
+ghost use Rattle.dep_changes.specs.Clauses.{CarriesOut, MakesState};
 ghost use Rattle.dep_changes.specs.Reported.{IsAccepted};
 
 use crate::change::{Change, NumberedDeposit, NumberedFiles};
@@ -34,7 +34,7 @@ pub fn carry_out<T: Statements>(
     content: &HashedOctets,
 ) -> Result<(), StoreFault>
     requires { IsTrue (room_for view.now.next (numbers_for decision.now)) }
-    ensures map { Makes T.lenders T.state tx.old tx.new result
+    ensures map { MakesState T.lenders T.state tx.old tx.new result
         (λ s. IsAccepted s view.now content.now decision.now)
         (λ s. effect_of s content.now decision.now) }
     ensures untouched { decision.now ≡ Show → (result ≡ Ok tt) × (tx.new ≡ tx.old) }

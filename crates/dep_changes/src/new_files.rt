@@ -9,12 +9,12 @@ ghost use Rattle.dep_decisions.specs.Effects.{bytes_from, file_from, is_referenc
 ghost use Rattle.dep_decisions.specs.declared.decision.Decision.TheVariants.{SetFile, SetFiles};
 ghost use Rattle.dep_decisions.specs.declared.decision.Deposit.TheVariants.{Files};
 ghost use Rattle.dep_changes.specs.Changed.{IsExtent, new_row};
-ghost use Rattle.dep_changes.specs.Clauses.{CarriesOut, PutsFile, PutsIn};
+ghost use Rattle.dep_changes.specs.Clauses.{CarriesOut, DepositsFile, PutsIn};
 ghost use Rattle.dep_changes.specs.Reported.{ReportsNewFile, ReportsSource, whole_view};
 
 use crate::change::{Change, NumberedFiles, touched_object};
 use crate::objects::files_changed;
-use dep_decisions::{NewFile, Source};
+use dep_decisions::{NewFile, ContentSource};
 use dep_files::{delete_file, delete_files, put_file};
 use dep_fixity::Digests;
 use dep_objects::put_object;
@@ -56,12 +56,12 @@ pub fn copied_behalf(alloc: Global, behalf: &Option<Text>) -> Result<Option<Text
     }
 }
 
-fn is_reference(source: Source) -> bool
+fn is_reference(source: ContentSource) -> bool
     ensures { result ≡ is_reference source }
 {
     match source {
-        Source::Posted(_) => false,
-        Source::Assembled(_) => true,
+        ContentSource::Posted(_) => false,
+        ContentSource::Assembled(_) => true,
     }
 }
 
@@ -117,16 +117,16 @@ fn whole_upload(view: &View, index: usize) -> Result<WholeUpload, StoreFault>
 }
 
 // How many bytes a new file has, and their digests.
-fn extent_of(change: &Change<'_>, source: Source, index: usize) -> Result<Extent, StoreFault>
+fn extent_of(change: &Change<'_>, source: ContentSource, index: usize) -> Result<Extent, StoreFault>
     ensures { (s : State) → ReportsSource change.now s index source
         → IfOk result (λ extent. IsExtent extent (bytes_from s change.now.content.now source)) }
 {
     match source {
-        Source::Posted(digests) => Ok(Extent {
+        ContentSource::Posted(digests) => Ok(Extent {
             size: change.content.as_slice().len() as u64,
             digests,
         }),
-        Source::Assembled(_) => {
+        ContentSource::Assembled(_) => {
             let upload = whole_upload(change.view, index)?;
             Ok(Extent {
                 size: upload.row.size,
@@ -157,13 +157,13 @@ fn put_new_file<T: Statements>(
     file: &NumberedFile<'_>,
     index: usize,
 ) -> Result<(), StoreFault>
-    ensures map { PutsFile T.lenders T.state tx.old tx.new result file.now.change.now
+    ensures map { DepositsFile T.lenders T.state tx.old tx.new result file.now.change.now
         file.now.numbers file.now.new.now index file.now.new.now.source }
 {
     let row = row_of(file.change, file.numbers, file.new, index)?;
     match file.new.source {
-        Source::Posted(digests) => put_file(tx, &row, &digests.sha512, file.change.content),
-        Source::Assembled(_) => {
+        ContentSource::Posted(digests) => put_file(tx, &row, &digests.sha512, file.change.content),
+        ContentSource::Assembled(_) => {
             let upload = whole_upload(file.change.view, index)?;
             assemble(tx, &upload.row, &row, &upload.digests.sha512)
         }

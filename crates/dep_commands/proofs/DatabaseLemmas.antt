@@ -8,10 +8,10 @@ use Rattle.dep_types.specs.State.{State, empty_state}
 use Rattle.dep_types.specs.Config.{IsChecked}
 use Rattle.dep_types.specs.declared.config.Config.{Config}
 use Rattle.dep_schema.specs.OpenTables.{HoldsNone}
-use Rattle.dep_schema.specs.States.{Represents, IsLeftAs, Leaves}
+use Rattle.dep_schema.specs.States.{Represents, IsLeftAs, DatabaseLeaves}
 use Rattle.dep_schema.proofs.Transacting.{IsSettled, leaves_as_was}
 use Rattle.dep_schema.specs.declared.opening.OpenFault.{OpenFault}
-use Rattle.dep_store.specs.HashingStores.{condition_of}
+use Rattle.dep_store.specs.HashingStores.{condition_with_hashes}
 use Rattle.dep_store.specs.declared.archive.HashingStore.{HashingStore}
 use Rattle.dep_store.specs.Migrating.{Keeps, OpenLeaves}
 use Rattle.dep_commands.specs.Starting.{IsGivenOrStore, IsStore, OpeningLeaves, RefusesConfig, outcome_of_start}
@@ -38,12 +38,12 @@ module _ {S : Type 0} (g : Ghosts S) (clean : (h : Held S) → IsTrue (state g h
     (settled : (h : Held S) → IsTrue (state g h).is_open → IsSettled (state g h)) (given : Held S) where
   module _ (config : Config) (opened : Hub (HashingStore S))
       (given_config : opened.config ≡ config)
-      (fresh : IsHonest (condition_of g) opened → HoldsNone (state g given).now.trees → RepresentsAfter (condition_of g) opened empty_state [])
-      (again : IsHonest (condition_of g) opened → (found : State) → IsLeftAs (state g given).now.trees found
+      (fresh : IsHonest (condition_with_hashes g) opened → HoldsNone (state g given).now.trees → RepresentsAfter (condition_with_hashes g) opened empty_state [])
+      (again : IsHonest (condition_with_hashes g) opened → (found : State) → IsLeftAs (state g given).now.trees found
       → (first : State) (records : List Record) → Run config first records (first_world found)
-      → RepresentsAfter (condition_of g) opened first records) where
+      → RepresentsAfter (condition_with_hashes g) opened first records) where
     led : (hub : Hub (HashingStore S)) → hub.config ≡ config → (first : State) (records : List Record)
-        → RepresentsAfter (condition_of g) hub first records → LedTo config (state g hub.store.store) first records
+        → RepresentsAfter (condition_with_hashes g) hub first records → LedTo config (state g hub.store.store) first records
     led hub same first records it =
         let run : Run config first records it.world = subst (λ (c : Config). Run c first records it.world) same it.run in
         record {
@@ -57,9 +57,9 @@ module _ {S : Type 0} (g : Ghosts S) (clean : (h : Held S) → IsTrue (state g h
 
     -- what the hub went on with
     pub goes_on : (served : Hub (HashingStore S)) (more : List Record) → served.config ≡ opened.config
-        → (IsHonest (condition_of g) served → IsHonest (condition_of g) opened)
-        → (IsClean (condition_of g) served → (first : State) (records : List Record) → RepresentsAfter (condition_of g) opened first records
-        → RepresentsAfter (condition_of g) served first (records ++ more))
+        → (IsHonest (condition_with_hashes g) served → IsHonest (condition_with_hashes g) opened)
+        → (IsClean (condition_with_hashes g) served → (first : State) (records : List Record) → RepresentsAfter (condition_with_hashes g) opened first records
+        → RepresentsAfter (condition_with_hashes g) served first (records ++ more))
         → GoesOn config (state g given) (state g served.store.store) more
     goes_on served more same honest adds = record {
       fresh = λ is_open none. led served (same ∙ given_config) empty_state more
@@ -69,7 +69,7 @@ module _ {S : Type 0} (g : Ghosts S) (clean : (h : Held S) → IsTrue (state g h
     }
 
     -- the hub that was opened represents the state that was found
-    represents_first : (first : State) → RepresentsAfter (condition_of g) opened first [] → Represents (state g opened.store.store) first
+    represents_first : (first : State) → RepresentsAfter (condition_with_hashes g) opened first [] → Represents (state g opened.store.store) first
     represents_first first it = subst (λ (w : World). Represents (state g opened.store.store) w.state) (world_at_first it.run refl) it.at.state.represents
 
     pub kept_by_hub : OpenLeaves (state g given) (state g opened.store.store) → IsKept (state g given) (state g opened.store.store)
@@ -81,8 +81,8 @@ module _ {S : Type 0} (g : Ghosts S) (clean : (h : Held S) → IsTrue (state g h
 
     -- what a run at the port comes to
     pub served : IsChecked config → (count : ℕ) (hub : Hub (HashingStore S)) (back : Held S) (outcome : Outcome) → back ≡ hub.store.store → hub.config ≡ opened.config
-        → (IsHonest (condition_of g) hub → IsHonest (condition_of g) opened) → OpenLeaves (state g given) (state g opened.store.store)
-        → ServesAt (condition_of g) opened hub count outcome → ServesDatabase g config count given back outcome
+        → (IsHonest (condition_with_hashes g) hub → IsHonest (condition_with_hashes g) opened) → OpenLeaves (state g given) (state g opened.store.store)
+        → ServesAt (condition_with_hashes g) opened hub count outcome → ServesDatabase g config count given back outcome
     served checked count hub back outcome same same_config honest stop (inl (talks, are, these)) =
         subst (λ (h : Held S). ServesDatabase g config count given h outcome) (sym same)
         (serves talks outcome checked are these.sizes (goes_on hub (all_records_of talks) same_config honest these.adds))
@@ -119,7 +119,7 @@ module _ (given mid new : db.State) (clean : IsTrue new.is_open → HasCleanDisk
     (fresh : HasCleanDisk mid → HoldsNone given.now.trees → Represents mid empty_state)
     (found : HasCleanDisk mid → (s : State) → IsLeftAs given.now.trees s → Represents mid s) where
   pub kept_still : (IsTrue new.is_open → (s : State) → Represents mid s → Represents new s)
-      → (HasCleanDisk new → (s : State) → Represents mid s → Leaves new (λ left. left ≡ s)) → IsKept given new
+      → (HasCleanDisk new → (s : State) → Represents mid s → DatabaseLeaves new (λ left. left ≡ s)) → IsKept given new
   kept_still carries stop = record {
     fresh = λ is_open none. carries is_open empty_state (fresh (honest (clean is_open)) none);
     found = λ is_open s left. carries is_open s (found (honest (clean is_open)) s left);

@@ -9,8 +9,8 @@ use Rattle.dep_types.specs.State.{State, empty_state}
 use Rattle.dep_tables.specs.Tables.{Tables}
 use Rattle.dep_tables.specs.Versions.{our_version, older_version, HasVersion}
 use Rattle.dep_schema.specs.OpenTables.{Holds, HoldsOlder, HoldsNone, StaysFile}
-use Rattle.dep_migrations.specs.FirstTables.{first_tables}
-use Rattle.dep_schema.specs.States.{Represents, IsLeftAs, Leaves}
+use Rattle.dep_migrations.specs.FirstTables.{new_store_tables}
+use Rattle.dep_schema.specs.States.{Represents, IsLeftAs, DatabaseLeaves}
 use Rattle.dep_commands.specs.Audits.{Audits, IsBegun, object_rows}
 use Rattle.dep_schema.proofs.Version.{not_older}
 use Rattle.dep_store.proofs.Opened.{first_means, version_is}
@@ -43,7 +43,7 @@ unfilled s object _ = inr (refl, refl)
 module _ (old new : db.State) (refused : IsRefused old new) where
   pub audits_none : AuditsDatabase old new [] StoreFault
   audits_none = record {
-    fresh = λ honest none. (first_tables, first_means, none_begun first_tables);
+    fresh = λ honest none. (new_store_tables, first_means, none_begun new_store_tables);
     found = λ honest t holds. none_begun t;
     older = λ honest t holds reported. inr (refl, refl);
     stays = inr (refl, refused);
@@ -72,7 +72,7 @@ module _ (given mid new : db.State) (clean : IsTrue new.is_open → HasCleanDisk
       → (HasCleanDisk mid → (t : Tables) → HoldsOlder given.now.trees t → OpensOlder t mid)
       → (HasCleanDisk new → (t : Tables) → StaysFile mid t → Audits t written outcome)
       → (IsTrue new.is_open → (t : Tables) → StaysFile mid t → StaysFile new t)
-      → (HasCleanDisk new → (s : State) → Represents mid s → Leaves new (λ left. left ≡ s))
+      → (HasCleanDisk new → (s : State) → Represents mid s → DatabaseLeaves new (λ left. left ≡ s))
       → AuditsDatabase given new written outcome
   audits_all written outcome tables older writes still stop = record {
     fresh = λ is_honest none.
@@ -93,7 +93,7 @@ module _ (given mid new : db.State) (clean : IsTrue new.is_open → HasCleanDisk
   pub exports_into : (object : ℕ) (sent : List ℕ) (outcome : Outcome)
       → (HasCleanDisk new → (s : State) → Represents mid s → ExportsInto s object sent outcome)
       → (IsTrue new.is_open → (s : State) → Represents mid s → Represents new s)
-      → (HasCleanDisk new → (s : State) → Represents mid s → Leaves new (λ left. left ≡ s))
+      → (HasCleanDisk new → (s : State) → Represents mid s → DatabaseLeaves new (λ left. left ≡ s))
       → ExportsDatabase given new object outcome
   exports_into object sent outcome gives still stop = record {
     given = sent;

@@ -16,8 +16,8 @@ use Rattle.dep_schema.specs.OpenTables.{StaysFile}
 use Rattle.dep_types.specs.Sinks.{IsPrefix}
 use Rattle.dep_files.specs.Faults.{BlamesOutlet}
 use Rattle.dep_files.specs.Fixity.{IsAudited}
-use Rattle.dep_commands.specs.Audits.{Audited, AreAudits, object_rows, damaged_line, damaged_lines, lines_of, checked_in, damaged_in, count_line, audit_text, outcome_of_audit, IsWhole, IsBegun, Audits}
-use Rattle.dep_commands.specs.Reporting.{BlamesTransfer, IsReportedObject, IsPartOfObject, IsReported, IsReportedTo, ReportsObject, ReportsObjects, outcome_of_fault}
+use Rattle.dep_commands.specs.Audits.{Audited, AreAudits, object_rows, damaged_line, damaged_lines, audit_lines, checked_in, damaged_in, count_line, audit_text, outcome_of_audit, IsWhole, IsBegun, Audits}
+use Rattle.dep_commands.specs.Reporting.{BlamesTransfer, IsReportedObject, IsPartOfObject, IsReported, IsReportedTo, ReportsAudit, ReportsObjects, outcome_of_fault}
 use Rattle.dep_commands.specs.declared.audit_fault.AuditFault.{AuditFault}
 use Rattle.dep_files.specs.declared.auditing.Audit.{Audit}
 use Rattle.dep_commands.specs.declared.tally.Tally.{Tally}
@@ -36,8 +36,8 @@ whole_front xs = record { rest = []; joined = sym (append-nil xs) }
 more_front : (xs part whole : List ℕ) → IsPrefix part whole → IsPrefix (xs ++ part) (xs ++ whole)
 more_front xs part whole f = record { rest = f.rest; joined = ap (λ l. xs ++ l) f.joined ∙ sym (append_assoc xs part f.rest) }
 
-lines_more : (found : List Audited) (a : Audited) → lines_of (found ++ a ∷ []) ≡ lines_of found ++ damaged_lines a
-lines_more found a = flat_map-append damaged_lines found (a ∷ []) ∙ ap (λ l. lines_of found ++ l) (append-nil (damaged_lines a))
+lines_more : (found : List Audited) (a : Audited) → audit_lines (found ++ a ∷ []) ≡ audit_lines found ++ damaged_lines a
+lines_more found a = flat_map-append damaged_lines found (a ∷ []) ∙ ap (λ l. audit_lines found ++ l) (append-nil (damaged_lines a))
 
 audits_more : (t : Tables) (rows : List Row) (found : List Audited) (r : Row) (a : Audited) → AreAudits t rows found
     → Int (pos a.object) ≡ rowid r → IsAudited t a.object a.audit → AreAudits t (rows ++ r ∷ []) (found ++ a ∷ [])
@@ -77,7 +77,7 @@ reported_so_far t after written tally h = record {
   first = h.first;
   found = h.reported.found;
   are = h.reported.are;
-  front = inl (subst (λ l. IsPrefix l (lines_of h.reported.found)) (sym h.reported.lines) (whole_front (lines_of h.reported.found)));
+  front = inl (subst (λ l. IsPrefix l (audit_lines h.reported.found)) (sym h.reported.lines) (whole_front (audit_lines h.reported.found)));
 }
 
 module _ (t : Tables) (ordered : IsOrdered t.objects) (after n : ℕ) (written : List ℕ) (tally : Tally)
@@ -125,7 +125,7 @@ module _ (t : Tables) (ordered : IsOrdered t.objects) (after n : ℕ) (written :
   reported_part part h =
       let all = reported.reported in
       let a : Audited = record { object = n; audit = h.audit } in
-      let front : IsPrefix (written ++ part) (lines_of (all.found ++ a ∷ [])) = subst (IsPrefix (written ++ part)) (ap (λ l. l ++ damaged_lines a) all.lines ∙ sym (lines_more all.found a)) (more_front written part (damaged_lines a) h.front) in
+      let front : IsPrefix (written ++ part) (audit_lines (all.found ++ a ∷ [])) = subst (IsPrefix (written ++ part)) (ap (λ l. l ++ damaged_lines a) all.lines ∙ sym (lines_more all.found a)) (more_front written part (damaged_lines a) h.front) in
       record {
         rows = reported.rows ++ the_row.0 ∷ [];
         others = filter (is_after n) t.objects;
@@ -186,13 +186,13 @@ reported_object t object a files written tally audited same is checked damaged =
     record { audit = a; audited = audited; lines = is ∙ ap (flat_map (damaged_line object)) same; checked = checked; damaged = damaged }
 
 -- it could not be read
-pub none_reported : (t : Tables) (object : ℕ) (result : Result Tally AuditFault) → IsErr result → ReportsObject t object [] result
+pub none_reported : (t : Tables) (object : ℕ) (result : Result Tally AuditFault) → IsErr result → ReportsAudit t object [] result
 none_reported t object (Ok tally) err = absurd (cc err)
 none_reported t object (Err fault) err = inl refl
 
 pub object_fails : (t : Tables) (object : ℕ) (a : Audit) (files written : List ℕ) → IsAudited t object a → files ≡ a.damaged.items
     → IsPrefix written (flat_map (damaged_line object) files) → (fault : AuditFault) (result : Result Tally AuditFault) → IsErrAnd result (λ x. x ≡ fault)
-    → ReportsObject t object written result
+    → ReportsAudit t object written result
 object_fails t object a files written audited same front fault (Ok x) err = absurd err
 object_fails t object a files written audited same front fault (Err e) err =
     inr (record { audit = a; audited = audited; front = subst (λ (l : List ℕ). IsPrefix written (flat_map (damaged_line object) l)) same front })

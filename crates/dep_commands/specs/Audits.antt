@@ -37,8 +37,8 @@ abbrev pub damaged_lines : Audited → List ℕ
 damaged_lines a = flat_map (damaged_line a.object) a.audit.damaged.items
 
 -- a line for each damaged file
-abbrev pub lines_of : List Audited → List ℕ
-lines_of found = flat_map damaged_lines found
+abbrev pub audit_lines : List Audited → List ℕ
+audit_lines found = flat_map damaged_lines found
 
 abbrev pub checked_in : List Audited → ℕ
 checked_in found = sum_by (λ a. a.audit.checked) found
@@ -50,7 +50,7 @@ abbrev pub count_line : (checked damaged : ℕ) → List ℕ
 count_line checked damaged = two_numbers (codes "files ") checked (codes " damaged ") damaged
 
 abbrev pub audit_text : List Audited → List ℕ
-audit_text found = lines_of found ++ count_line (checked_in found) (damaged_in found)
+audit_text found = audit_lines found ++ count_line (checked_in found) (damaged_in found)
 
 abbrev pub outcome_of_audit : (damaged : ℕ) → Outcome
 outcome_of_audit zero = Done
@@ -71,7 +71,7 @@ pub record IsBegun (t : Tables) (written : List ℕ) : Type 0 where
   pub first : object_rows t ≡ rows ++ others
   pub found : List Audited
   pub are : AreAudits t rows found
-  pub front : IsPrefix written (lines_of found) ⊎ ((others ≡ []) × IsPrefix written (audit_text found))
+  pub front : IsPrefix written (audit_lines found) ⊎ ((others ≡ []) × IsPrefix written (audit_text found))
 
 -- what an audit writes of these tables, by how it ends
 abbrev pub Audits : Tables → (written : List ℕ) → Outcome → Type 0

@@ -7,7 +7,7 @@ use Rattle.dep_types.specs.State.{State, empty_state}
 use Rattle.dep_types.specs.Config.{IsChecked}
 use Rattle.dep_types.specs.declared.config.Config.{Config}
 use Rattle.dep_schema.specs.OpenTables.{HoldsNone}
-use Rattle.dep_schema.specs.States.{Represents, IsLeftAs, Leaves}
+use Rattle.dep_schema.specs.States.{Represents, IsLeftAs, DatabaseLeaves}
 use Rattle.dep_store.specs.Migrating.{Keeps, OpenLeaves}
 use Rattle.dep_exchange.specs.Records.{World, Record, Run, first_world, stopped}
 use Rattle.dep_connection.specs.Turns.{ArePieces}
@@ -32,7 +32,7 @@ pub record LedTo (config : Config) (d : db.State) (first : State) (records : Lis
   pub world : World
   pub run : Run config first records world
   pub represents : Represents d world.state
-  pub stop : Leaves d (λ left. Run config first (records ++ stopped ∷ []) (first_world left))
+  pub stop : DatabaseLeaves d (λ left. Run config first (records ++ stopped ∷ []) (first_world left))
 
 -- The machine went on with these records: from the initial state over an empty database, and over one that a store
 -- left from all records that may have led to what was left.

@@ -25,8 +25,8 @@ pub record AreOpened (old new : db.State) : Type 0 where
   pub older : IsTrue new.is_open → (t : Tables) → HoldsOlder old.now.trees t
       → HasVersion older_version t → (after : Tables) × StaysFile new after × IsUpgraded t after
 
-abbrev pub TablesStay : (old new : db.State) → Outcome → Type 0
-TablesStay old new outcome =
+abbrev pub ExaminationKeepsTables : (old new : db.State) → Outcome → Type 0
+ExaminationKeepsTables old new outcome =
     AreOpened old new ⊎ ((outcome ≡ StoreFault) × IsRefused old new)
 
 -- it was written of the tables that those of version 1 become, or nothing was
@@ -44,7 +44,7 @@ pub record AuditsDatabase (old new : db.State) (written : List ℕ) (outcome : O
   pub older : HasCleanDisk new → (t : Tables) → HoldsOlder old.now.trees t
       → HasVersion older_version t → AuditsOlder t written outcome
   pub stays : Stays old new outcome
-  pub tables : TablesStay old new outcome
+  pub tables : ExaminationKeepsTables old new outcome
 
 -- a folder is given what an export gives it, by its outcome; or there is no such folder, and nothing was given
 abbrev pub ExportsInto : State → (object : ℕ) → (given : List ℕ) → Outcome → Type 0

@@ -10,7 +10,7 @@ use Rattle.dep_exchange.specs.Records.{World, first_world, Run}
 use Rattle.dep_connection.specs.Turns.{Turn, pieces_of, replies_of, records_of, ArePieces, with_opened, with_closed, Exchanges, EndsAs, most_reads, reads_made, reads_after, HasLastRead}
 use Rattle.dep_connection.specs.Conversation.{Wire, Transfers, Rests, outflow, wire}
 use Rattle.dep_connection.specs.declared.connection.Served.{Served}
-use Rattle.dep_program.specs.Gathering.{reported, held_in}
+use Rattle.dep_program.specs.Gathering.{gathered_bytes, held_in}
 use Rattle.dep_program.specs.Outcomes.{outcome_of, outcome_sent}
 use Rattle.dep_program.specs.Setup.{program_config}
 use Rattle.dep_program.specs.declared.gathered.Gathered.{Gathered}
@@ -31,7 +31,7 @@ FromNothing old new P = HoldsNone old.now.trees → db.HasCleanDisk new → P
 abbrev pub wire_gathered : {R W : Type 0} → (g : inlet.Ghosts R) → R
     → (contents : W → Option (List ℕ)) → Gathered W → Wire
 wire_gathered g reader contents outlet = wire g reader (record {
-  taken = reported contents outlet;
+  taken = gathered_bytes contents outlet;
   failures = outlet.failures;
   held = held_in outlet;
   has_failed = outlet.has_failed;

@@ -12,7 +12,7 @@ use Rattle.dep_files.specs.Faults.{BlamesOutlet}
 use Rattle.dep_files.specs.Fixity.{IsAudited}
 use Rattle.dep_files.specs.declared.auditing.Audit.{Audit}
 use Rattle.dep_store.specs.Staying.{KeepsTables}
-use Rattle.dep_commands.specs.Audits.{Audited, AreAudits, object_rows, damaged_lines, lines_of, checked_in, damaged_in, IsBegun}
+use Rattle.dep_commands.specs.Audits.{Audited, AreAudits, object_rows, damaged_lines, audit_lines, checked_in, damaged_in, IsBegun}
 use Rattle.dep_commands.specs.declared.audit_fault.AuditFault.{AuditFault}
 use Rattle.dep_commands.specs.declared.audit_fault.AuditFault.TheVariants.{Store, Writer}
 use Rattle.dep_program.specs.declared.outcome.Outcome.{Outcome}
@@ -74,15 +74,15 @@ pub record IsPartOfObject (t : Tables) (object : ℕ) (written : List ℕ) : Typ
   pub audited : IsAudited t object audit
   pub front : IsPrefix written (damaged_lines (record { object = object; audit = audit }))
 
-abbrev pub ReportsObject : Tables → (object : ℕ) → (written : List ℕ) → Result Tally AuditFault → Type 0
-ReportsObject t object written (Ok tally) = IsReportedObject t object written tally
-ReportsObject t object written (Err fault) = (written ≡ []) ⊎ IsPartOfObject t object written
+abbrev pub ReportsAudit : Tables → (object : ℕ) → (written : List ℕ) → Result Tally AuditFault → Type 0
+ReportsAudit t object written (Ok tally) = IsReportedObject t object written tally
+ReportsAudit t object written (Err fault) = (written ≡ []) ⊎ IsPartOfObject t object written
 
 -- the objects up to this number were audited, and their lines were written
 pub record IsReported (t : Tables) (rows : List Row) (written : List ℕ) (tally : Tally) : Type 0 where
   pub found : List Audited
   pub are : AreAudits t rows found
-  pub lines : written ≡ lines_of found
+  pub lines : written ≡ audit_lines found
   pub checked : tally.checked ≡ checked_in found
   pub damaged : tally.damaged ≡ damaged_in found
 

@@ -7,8 +7,8 @@ use Rattle.dep_reserve.specs.declared.reserved_archive.ReservedArchive.{Reserved
 use Rattle.dep_exchange.specs.ArchiveCalls.{CallLog}
 
 -- how a store with a reserve stands: as without one
-abbrev pub condition_of : {S R : Type 0} → (g : Ghosts S) → ReservedArchive (HashingStore S) R → Condition
-condition_of g its = store.condition_of g its.archive
+abbrev pub reserved_condition : {S R : Type 0} → (g : Ghosts S) → ReservedArchive (HashingStore S) R → Condition
+reserved_condition g its = store.condition_with_hashes g its.archive
 
-abbrev pub call_log_of : {S R : Type 0} → (g : Ghosts S) → ReservedArchive (HashingStore S) R → CallLog
-call_log_of g its = store.call_log_of g its.archive
+abbrev pub reserved_call_log : {S R : Type 0} → (g : Ghosts S) → ReservedArchive (HashingStore S) R → CallLog
+reserved_call_log g its = store.call_log_of g its.archive

@@ -10,7 +10,7 @@ use Rattle.dep_types.specs.Config.{IsChecked}
 use Rattle.dep_types.specs.declared.config.Config.{Config}
 use Rattle.dep_schema.specs.OpenTables.{HoldsNone}
 use Rattle.sqlite_trees.specs.declared.store.Store.{Ghosts}
-use Rattle.dep_schema.specs.States.{IsLeftAs, Represents, Leaves}
+use Rattle.dep_schema.specs.States.{IsLeftAs, Represents, DatabaseLeaves}
 use Rattle.dep_exchange.specs.Records.{Record, Run, first_world, stopped}
 use Rattle.dep_hub.specs.Representing.{RepresentsAfter, IsHonest}
 use Rattle.dep_hub.specs.declared.hub.Hub.{Hub}
@@ -29,7 +29,7 @@ pub record OpeningLeaves (config : Config) (old new : db.State) : Type 0 where
   pub again : HasCleanDisk new → IsTrue old.is_open
       → (found : State) → IsLeftAs old.now.trees found
       → (first : State) (records : List Record) → Run config first records (first_world found)
-      → Leaves new (λ left. (left ≡ found)
+      → DatabaseLeaves new (λ left. (left ≡ found)
       × Run config first (records ++ stopped ∷ []) (first_world left))
 
 -- over what a stop left of this database for some state, the hub goes on from the records that led there

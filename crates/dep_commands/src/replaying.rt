@@ -3,7 +3,7 @@ ghost use Rattle.std.specs.Prelude.{◌≡◌, false};
 ghost use Rattle.std.specs.Io.KnownBytes.{Keeps};
 ghost use Rattle.sqlite.specs.Held.{state};
 ghost use Rattle.dep_connection.specs.Flushing.{IsFlushed};
-ghost use Rattle.dep_program.specs.Gathering.{reported, held_in, given};
+ghost use Rattle.dep_program.specs.Gathering.{gathered_bytes, held_in, given};
 ghost use Rattle.dep_commands.specs.Replays.{FromNothing, Replays, ReplaysIn, ReplaysSent, wire_gathered, wire_of};
 
 use crate::starting::{close_hub, open_hub};
@@ -63,7 +63,7 @@ pub fn replay_gathered<R: Inlet, W: Write + Drop>(
         outlet.new.has_failed result }
     // The writer has all that was sent.
     ensures sent { result ≡ Outcome.Done → IsFlushed (held_in outlet.old) outlet.old.has_failed
-        → Keeps (reported W.contents outlet.new) (given W.contents outlet.new) }
+        → Keeps (gathered_bytes W.contents outlet.new) (given W.contents outlet.new) }
 {
     let outcome = replay(alloc, moment, base, reader, outlet);
     outcome_sent(outlet.has_failed(), outcome)

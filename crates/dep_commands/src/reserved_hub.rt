@@ -5,7 +5,7 @@ ghost use Rattle.dep_types.specs.Config.{IsChecked};
 ghost use Rattle.dep_hub.specs.Representing.{GoesOnFrom};
 ghost use Rattle.dep_store.specs.Migrating.{Keeps};
 ghost use Rattle.dep_commands.specs.Starting.{IsGivenOrStore, IsOpened, OpeningLeaves, RefusesConfig};
-ghost use Rattle.dep_commands.specs.Reserved.{condition_of};
+ghost use Rattle.dep_commands.specs.Reserved.{reserved_condition};
 
 use crate::starting::{StartFault, check_config};
 use dep_exchange::Archive;
@@ -28,7 +28,7 @@ pub fn open_reserved_hub<S: Alter, R: Reserve + Drop>(
     reserve: Option<R>,
 ) -> Result<Hub<ReservedArchive<HashingStore<S>, R>>, (StartFault, Connection<S>)>
     requires settled { (state S.Store connection).in_transaction ≡ false }
-    ensures opened { IfOk result (IsOpened (condition_of S.Store) config (state S.Store connection)) }
+    ensures opened { IfOk result (IsOpened (reserved_condition S.Store) config (state S.Store connection)) }
     // No database is opened for a configuration that is refused.
     ensures checked { IfErr result (λ e. (fault : OpenFault) → e.0 ≡ StartFault.Open fault
         → IsChecked config) }

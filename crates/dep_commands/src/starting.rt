@@ -9,7 +9,7 @@ ghost use Rattle.dep_store.specs.Causes.{FailsToOpenTables};
 ghost use Rattle.dep_store.specs.Migrating.{Keeps};
 ghost use Rattle.dep_commands.specs.Starting.{GoesOnFromStop, IsGivenOrStore, OpeningLeaves, RefusesConfig, outcome_of_start};
 ghost use Rattle.dep_hub.specs.Representing.{RepresentsAfter, IsClean, IsHonest};
-ghost use Rattle.dep_store.specs.HashingStores.{condition_of};
+ghost use Rattle.dep_store.specs.HashingStores.{condition_with_hashes};
 
 use dep_exchange::Archive;
 use dep_files::Watch;
@@ -79,12 +79,12 @@ pub fn open_hub<S: Alter, W: Watch>(
     watch: &mut W,
 ) -> Result<Hub<HashingStore<S>>, (StartFault, Connection<S>)>
     requires settled { (state S.Store connection).in_transaction ≡ false }
-    ensures fresh { IfOk result (λ hub. IsHonest (condition_of S.Store) hub
+    ensures fresh { IfOk result (λ hub. IsHonest (condition_with_hashes S.Store) hub
         → HoldsNone (state S.Store connection).now.trees
-        → RepresentsAfter (condition_of S.Store) hub empty_state []) }
+        → RepresentsAfter (condition_with_hashes S.Store) hub empty_state []) }
     // Over what a stop left it goes on from the records before it, for each state that the stop
     // may have left.
-    ensures again { IfOk result (GoesOnFromStop (condition_of S.Store) config (state S.Store connection)) }
+    ensures again { IfOk result (GoesOnFromStop (condition_with_hashes S.Store) config (state S.Store connection)) }
     ensures config { IfOk result (λ hub. hub.config ≡ config) }
     // No database is opened for a configuration that is refused.
     ensures checked { MatchResult result (λ _. IsChecked config)
@@ -109,10 +109,10 @@ pub fn open_hub<S: Alter, W: Watch>(
     ensures kept { IfErr result (λ e. e.0 ≡ StartFault.Hub HubFault.Memory
         → IsGivenOrStore S.Store config connection e.1) }
     ensures honest { MatchResult result
-        (λ hub. IsHonest (condition_of S.Store) hub → HasCleanDisk (state S.Store connection))
+        (λ hub. IsHonest (condition_with_hashes S.Store) hub → HasCleanDisk (state S.Store connection))
         (λ e. HasCleanDisk (state S.Store e.1) → HasCleanDisk (state S.Store connection)) }
     ensures clean { MatchResult result
-        (λ hub. IsClean (condition_of S.Store) hub → IsTrue (state S.Store connection).is_open)
+        (λ hub. IsClean (condition_with_hashes S.Store) hub → IsTrue (state S.Store connection).is_open)
         (λ e. IsTrue (state S.Store e.1).is_open → IsTrue (state S.Store connection).is_open) }
     // What a stop now leaves, whether a hub was made or not.
     ensures stop { MatchResult result

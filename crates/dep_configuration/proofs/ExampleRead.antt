@@ -13,7 +13,7 @@ use Rattle.json.specs.Strict.{keys}
 use Rattle.dep_configuration.specs.Configured.{HasConfig, HasConfiguration, HasLimits}
 use Rattle.dep_docs_out.specs.ExampleDocuments.{example_config}
 use Rattle.dep_configuration.specs.Example.{example_configuration, example_limits}
-use Rattle.dep_configuration.specs.Fields.{bounds_of, name_of}
+use Rattle.dep_configuration.specs.Fields.{bounds_of, configuration_key}
 use Rattle.dep_configuration.specs.Names.{is_field_name, AreFieldNames}
 use Rattle.dep_configuration.specs.Readings.{number_within}
 
@@ -192,7 +192,7 @@ example-document text lexed =
     ∙ ap (λ (r : Option (Json × List Token)). option_and_then (λ p. if_last p.0 p.1) r) valued
 
 pub example-names : AreFieldNames (keys example_members)
-unfolding name_of example_members
+unfolding configuration_key example_members
 example-names = record {
   known = AllPass-from_list_all is_field_name (keys example_members) refl;
   once = AllPairs-from_IsDistinct bytes_eq-Decides (keys example_members)
@@ -200,11 +200,11 @@ example-names = record {
 }
 
 example-limits : HasLimits example_limits (object example_members)
-unfolding name_of bounds_of number_within example_members
+unfolding configuration_key bounds_of number_within example_members
 example-limits = record { idle = refl; rate = refl; all = refl; address = refl; spool = refl; unfinished = refl }
 
 pub example-config : HasConfig example_config (object example_members)
-unfolding name_of bounds_of number_within example_members
+unfolding configuration_key bounds_of number_within example_members
 example-config = record {
   base = refl;
   title = refl;
@@ -231,7 +231,7 @@ localhost-dotted = record {
 }
 
 pub example-given : HasConfiguration example_configuration (object example_members)
-unfolding name_of bounds_of number_within example_members
+unfolding configuration_key bounds_of number_within example_members
 example-given = record {
   address = inr localhost-dotted;
   port = refl;

@@ -16,7 +16,7 @@ use Rattle.dep_types.specs.declared.config.Config.{Config}
 use Rattle.dep_configuration.specs.Configured.{HasConfig}
 use Rattle.dep_configuration.specs.Faults.{is_required, AreReadable, Suits}
 use Rattle.dep_configuration.specs.Fields.{bounds, bounds_of, wanted_of}
-use Rattle.dep_configuration.specs.Readings.{at_least, filled, filled_text_of, flag_of, given, given_text, number_of, number_within, optional, optional_number_of, text_of}
+use Rattle.dep_configuration.specs.Readings.{at_least, nonempty, filled_text_of, flag_of, given_field, given_text, number_or_default, number_within, optional, optional_number_of, text_or_default}
 use Rattle.dep_configuration.specs.declared.field.Bounds.{Bounds}
 use Rattle.dep_configuration.specs.declared.field.ConfigurationField.{ConfigurationField}
 use Rattle.dep_configuration.specs.declared.field.ConfigurationField.TheVariants.{Port, MaxUpload, MaxAssembled, MaxSegments, StagingMaxIdle}
@@ -41,49 +41,49 @@ read-optional P read None h = refl
 read-optional P read (Some v) h = some-mapped (read v) h
 
 -- a field that can be read suits what it is known to want
-suited : (field : ConfigurationField) (w : Wanted) (j : Json) → AreReadable j → wanted_of field ≡ w → MatchOption (given field j) (is_required w ≡ false) (Suits w)
-suited field w j readable e = subst (λ w. MatchOption (given field j) (is_required w ≡ false) (Suits w)) e (readable field)
+suited : (field : ConfigurationField) (w : Wanted) (j : Json) → AreReadable j → wanted_of field ≡ w → MatchOption (given_field field j) (is_required w ≡ false) (Suits w)
+suited field w j readable e = subst (λ w. MatchOption (given_field field j) (is_required w ≡ false) (Suits w)) e (readable field)
 
-pub text-or : (field : ConfigurationField) (default : List ℕ) (j : Json) → AreReadable j → wanted_of field ≡ AnyText → text_of field default j ≡ Some (unwrap_or (given_text field j) default)
-text-or field default j readable e = read-or (false ≡ false) as_str (given field j) default (suited field AnyText j readable e)
+pub text-or : (field : ConfigurationField) (default : List ℕ) (j : Json) → AreReadable j → wanted_of field ≡ AnyText → text_or_default field default j ≡ Some (unwrap_or (given_text field j) default)
+text-or field default j readable e = read-or (false ≡ false) as_str (given_field field j) default (suited field AnyText j readable e)
 
-flag-or : (field : ConfigurationField) (j : Json) → AreReadable j → wanted_of field ≡ Flag → flag_of field j ≡ Some (unwrap_or (given field j >>= as_bool) false)
-flag-or field j readable e = read-or (false ≡ false) as_bool (given field j) false (suited field Flag j readable e)
+flag-or : (field : ConfigurationField) (j : Json) → AreReadable j → wanted_of field ≡ Flag → flag_of field j ≡ Some (unwrap_or (given_field field j >>= as_bool) false)
+flag-or field j readable e = read-or (false ≡ false) as_bool (given_field field j) false (suited field Flag j readable e)
 
-pub flag-given : (field : ConfigurationField) (j v : Json) (b : Bool) → AreReadable j → wanted_of field ≡ Flag → Some v ≡ given field j → b ≡ unwrap_or (as_bool v) false → flag_of field j ≡ Some b
-flag-given field j v b readable e given same =
-    flag-or field j readable e ∙ ap (λ o. Some (unwrap_or (o >>= as_bool) false)) (sym given) ∙ ap (λ b. Some b) (sym same)
+pub flag-given : (field : ConfigurationField) (j v : Json) (b : Bool) → AreReadable j → wanted_of field ≡ Flag → Some v ≡ given_field field j → b ≡ unwrap_or (as_bool v) false → flag_of field j ≡ Some b
+flag-given field j v b readable e given_field same =
+    flag-or field j readable e ∙ ap (λ o. Some (unwrap_or (o >>= as_bool) false)) (sym given_field) ∙ ap (λ b. Some b) (sym same)
 
-pub flag-absent : (field : ConfigurationField) (j : Json) → AreReadable j → wanted_of field ≡ Flag → None ≡ given field j → flag_of field j ≡ Some false
-flag-absent field j readable e given = flag-or field j readable e ∙ ap (λ o. Some (unwrap_or (o >>= as_bool) false)) (sym given)
+pub flag-absent : (field : ConfigurationField) (j : Json) → AreReadable j → wanted_of field ≡ Flag → None ≡ given_field field j → flag_of field j ≡ Some false
+flag-absent field j readable e given_field = flag-or field j readable e ∙ ap (λ o. Some (unwrap_or (o >>= as_bool) false)) (sym given_field)
 
-pub number-or : (field : ConfigurationField) (default : ℕ) (j : Json) → AreReadable j → wanted_of field ≡ WholeNumber (bounds_of field) → number_of field default j ≡ Some (unwrap_or (given field j >>= number_within (bounds_of field)) default)
-number-or field default j readable e = read-or (false ≡ false) (number_within (bounds_of field)) (given field j) default (suited field (WholeNumber (bounds_of field)) j readable e)
+pub number-or : (field : ConfigurationField) (default : ℕ) (j : Json) → AreReadable j → wanted_of field ≡ WholeNumber (bounds_of field) → number_or_default field default j ≡ Some (unwrap_or (given_field field j >>= number_within (bounds_of field)) default)
+number-or field default j readable e = read-or (false ≡ false) (number_within (bounds_of field)) (given_field field j) default (suited field (WholeNumber (bounds_of field)) j readable e)
 
-pub number-optional : (field : ConfigurationField) (j : Json) → AreReadable j → wanted_of field ≡ WholeNumber (bounds_of field) → optional_number_of field j ≡ Some (given field j >>= number_within (bounds_of field))
-number-optional field j readable e = read-optional (false ≡ false) (number_within (bounds_of field)) (given field j) (suited field (WholeNumber (bounds_of field)) j readable e)
+pub number-optional : (field : ConfigurationField) (j : Json) → AreReadable j → wanted_of field ≡ WholeNumber (bounds_of field) → optional_number_of field j ≡ Some (given_field field j >>= number_within (bounds_of field))
+number-optional field j readable e = read-optional (false ≡ false) (number_within (bounds_of field)) (given_field field j) (suited field (WholeNumber (bounds_of field)) j readable e)
 
 -- a text that has to be given is there, and isn't empty where it must not be
 there : {X V : Type 0} (read : V → Option X) (o : Option V) → MatchOption o (true ≡ false) (λ v. IsSome (read v)) → IsSome (o >>= read)
 there read None h = absurd (true≢false h)
 there read (Some v) h = h
 
-both-there : (o : Option Json) → MatchOption o (true ≡ false) (λ v. IsSome (as_str v >>= filled)) → IsSome (o >>= as_str >>= filled)
+both-there : (o : Option Json) → MatchOption o (true ≡ false) (λ v. IsSome (as_str v >>= nonempty)) → IsSome (o >>= as_str >>= nonempty)
 both-there None h = absurd (true≢false h)
 both-there (Some v) h = h
 
-filled-same : (r : Option (List ℕ)) → IsSome (r >>= filled) → (r >>= filled) ≡ r
+filled-same : (r : Option (List ℕ)) → IsSome (r >>= nonempty) → (r >>= nonempty) ≡ r
 filled-same None h = cc
 filled-same (Some []) h = cc
 filled-same (Some (b ∷ text)) h = refl
 
 pub filled-text : (field : ConfigurationField) (j : Json) → AreReadable j → wanted_of field ≡ FilledText → (filled_text_of field j ≡ given_text field j) × IsSome (filled_text_of field j)
 filled-text field j readable e =
-    let h = both-there (given field j) (suited field FilledText j readable e) in
+    let h = both-there (given_field field j) (suited field FilledText j readable e) in
     (filled-same (given_text field j) h, h)
 
 pub base-text : (field : ConfigurationField) (j : Json) → AreReadable j → wanted_of field ≡ Base → IsSome (given_text field j)
-base-text field j readable e = there as_str (given field j) (suited field Base j readable e)
+base-text field j readable e = there as_str (given_field field j) (suited field Base j readable e)
 
 -- a number that is read is within its bounds
 in-bounds : (least most n : ℕ) (digits : Bool) (value : ℕ) → at_least least (cond digits (cond (nat_le value most) (Value value) Above) NotDigits) ≡ Some n → (least ≤ n) × (n ≤ most)
@@ -101,13 +101,13 @@ number-of : (b : Bounds) (o : Option Json) (default n : ℕ) → (b.least ≤ de
 number-of b None default n fits h = subst (λ m. (b.least ≤ m) × (m ≤ b.most)) (same_Some default n h) fits
 number-of b (Some v) default n fits h = number-within b v n h
 
-pub port-fits : (j : Json) (n : ℕ) → number_of Port 8080 j ≡ Some n → n ≤ 65535
+pub port-fits : (j : Json) (n : ℕ) → number_or_default Port 8080 j ≡ Some n → n ≤ 65535
 unfolding bounds_of
-port-fits j n h = (number-of (bounds_of Port) (given Port j) 8080 n (omega arith, omega arith) h).1
+port-fits j n h = (number-of (bounds_of Port) (given_field Port j) 8080 n (omega arith, omega arith) h).1
 
-limit : (field : ConfigurationField) (greatest default : ℕ) (j : Json) (n : ℕ) → bounds_of field ≡ bounds 1 greatest → (1 ≤ default) × (default ≤ greatest) → number_of field default j ≡ Some n → IsLimit n greatest
+limit : (field : ConfigurationField) (greatest default : ℕ) (j : Json) (n : ℕ) → bounds_of field ≡ bounds 1 greatest → (1 ≤ default) × (default ≤ greatest) → number_or_default field default j ≡ Some n → IsLimit n greatest
 limit field greatest default j n e fits h =
-    let r = subst (λ (b : Bounds). (b.least ≤ n) × (n ≤ b.most)) e (number-of (bounds_of field) (given field j) default n (subst (λ (b : Bounds). (b.least ≤ default) × (default ≤ b.most)) (sym e) fits) h) in
+    let r = subst (λ (b : Bounds). (b.least ≤ n) × (n ≤ b.most)) e (number-of (bounds_of field) (given_field field j) default n (subst (λ (b : Bounds). (b.least ≤ default) × (default ≤ b.most)) (sym e) fits) h) in
     record { least = r.0; most = r.1 }
 
 -- what is read has the limits of a server

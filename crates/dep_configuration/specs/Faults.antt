@@ -11,7 +11,7 @@ use Rattle.dep_types.specs.Base.{IsBase}
 use Rattle.dep_types.specs.Maps.{◌>>=◌}
 use Rattle.dep_configuration.specs.Fields.{wanted_of}
 use Rattle.dep_configuration.specs.Names.{GivesFields, IsFaultOfNames}
-use Rattle.dep_configuration.specs.Readings.{filled, given, given_text, number_within}
+use Rattle.dep_configuration.specs.Readings.{nonempty, given_field, given_text, number_within}
 use Rattle.dep_configuration.specs.declared.field.TheConstants.{FIELDS}
 use Rattle.dep_configuration.specs.declared.field.ConfigurationField.{ConfigurationField}
 use Rattle.dep_configuration.specs.declared.field.ConfigurationField.TheVariants as Name
@@ -29,7 +29,7 @@ is_required _ = false
 -- a value is what is wanted; of a base, a text
 abbrev pub Suits : Wanted → Json → Type 0
 Suits AnyText v = IsSome (as_str v)
-Suits FilledText v = IsSome (as_str v >>= filled)
+Suits FilledText v = IsSome (as_str v >>= nonempty)
 Suits Flag v = IsSome (as_bool v)
 Suits Address v = (a : IpAddr) × IsSomeAnd (as_str v) (λ text. IsIpText text a)
 Suits Base v = IsSome (as_str v)
@@ -38,7 +38,7 @@ Suits (WholeNumber b) v = IsSome (number_within b v)
 -- a field is given as what is wanted, or isn't given and need not be
 abbrev pub IsReadable : ConfigurationField → Json → Type 0
 IsReadable field j =
-    MatchOption (given field j) (is_required (wanted_of field) ≡ false) (Suits (wanted_of field))
+    MatchOption (given_field field j) (is_required (wanted_of field) ≡ false) (Suits (wanted_of field))
 
 abbrev pub AreReadable : Json → Type 0
 AreReadable j = (field : ConfigurationField) → IsReadable field j
@@ -55,9 +55,9 @@ IsFaultOf field NotObject j = ⊥
 IsFaultOf field (Unknown name) j = ⊥
 IsFaultOf field (Repeated name) j = ⊥
 IsFaultOf field (Missing reported) j =
-    (reported ≡ field) × (given field j ≡ None) × IsTrue (is_required (wanted_of field))
+    (reported ≡ field) × (given_field field j ≡ None) × IsTrue (is_required (wanted_of field))
 IsFaultOf field (Invalid reported) j =
-    (reported ≡ field) × IsSomeAnd (given field j) (λ v. ¬ Suits (wanted_of field) v)
+    (reported ≡ field) × IsSomeAnd (given_field field j) (λ v. ¬ Suits (wanted_of field) v)
 IsFaultOf field Memory j = ⊥
 
 -- a fault is that of the first field which can't be read, as the example has them
@@ -82,8 +82,8 @@ IsFirstFault e j =
     ⊎ (GivesFields j × (IsFirstOfFields e j ⊎ IsFaultOfBase e j))
 
 -- why a text is refused, of which this is the value
-abbrev pub IsRefused : ConfigurationFault → Option Json → Type 0
-IsRefused e document = (e ≡ Memory) ⊎ MatchOption document (e ≡ Malformed) (IsFirstFault e)
+abbrev pub IsRefusedBy : ConfigurationFault → Option Json → Type 0
+IsRefusedBy e document = (e ≡ Memory) ⊎ MatchOption document (e ≡ Malformed) (IsFirstFault e)
 
 -- an error of the text as JSON
 abbrev pub fault_of_json : Error → ConfigurationFault

@@ -4,14 +4,14 @@ use Rattle.std.specs.List.{list_any}
 use Rattle.json.specs.Json.{Json}
 use Rattle.json.specs.Find.{as_object}
 use Rattle.json.specs.Strict.{keys, AreDistinct}
-use Rattle.dep_configuration.specs.Fields.{name_of}
+use Rattle.dep_configuration.specs.Fields.{configuration_key}
 use Rattle.dep_configuration.specs.declared.field.TheConstants.{FIELDS}
 use Rattle.dep_configuration.specs.declared.fault.ConfigurationFault.{ConfigurationFault}
 use Rattle.dep_configuration.specs.declared.fault.ConfigurationFault.TheVariants.{Malformed, NotObject, Unknown, Repeated, Missing, Invalid, Memory}
 
 -- there is a field of this name
 abbrev pub is_field_name : List ℕ → Bool
-is_field_name name = list_any (λ field. bytes_eq (name_of field) name) FIELDS
+is_field_name name = list_any (λ field. bytes_eq (configuration_key field) name) FIELDS
 
 -- each is the name of a field, and none stands twice
 pub record AreFieldNames (names : List (List ℕ)) : Type 0 where

@@ -6,7 +6,7 @@ ghost use Rattle.dep_configuration.specs.declared.fault.ConfigurationFault.TheVa
 ghost use Rattle.dep_types.specs.Base.{IsBase};
 ghost use Rattle.dep_types.specs.Config.{IsChecked, HasLimits as IsLimited};
 ghost use Rattle.dep_configuration.specs.Configured.{HasConfig, HasConfiguration, HasLimits, IsConfiguration, IsRead};
-ghost use Rattle.dep_configuration.specs.Faults.{AreReadable, IsFirstFault, IsRefused};
+ghost use Rattle.dep_configuration.specs.Faults.{AreReadable, IsFirstFault, IsRefusedBy};
 
 use crate::checks::check_fields;
 use crate::fault::ConfigurationFault;
@@ -67,7 +67,7 @@ impl Configuration {
     /// example; and last, that the text of `base` isn't a base.
     pub fn read(alloc: Global, text: &str) -> Result<Configuration, ConfigurationFault>
         ensures read { IfOk result (λ c. IsConfiguration c text.now) }
-        ensures refused { IfErr result (λ e. IsRefused e (document text.now)) }
+        ensures refused { IfErr result (λ e. IsRefusedBy e (document text.now)) }
     {
         let mut scratch = Scratch::new(alloc);
         let value = Value::parse(alloc, text, &mut scratch)?;

@@ -1,6 +1,6 @@
 //! The fields of a configuration.
 ghost use Rattle.std.specs.Prelude.{◌≡◌};
-ghost use Rattle.dep_configuration.specs.Fields.{bounds, bounds_of, name_of, wanted_of};
+ghost use Rattle.dep_configuration.specs.Fields.{bounds, bounds_of, configuration_key, wanted_of};
 
 use dep_types::{
     GREATEST_MAX_ASSEMBLED, GREATEST_MAX_SEGMENTS, GREATEST_MAX_UPLOAD, GREATEST_STAGING_MAX_IDLE,
@@ -128,7 +128,7 @@ impl ConfigurationField {
     /// The name of the field in a configuration.
     #[tactic(auto, unfolding(crate::specs::Fields::name_of))]
     pub fn name(self) -> &'static str
-        ensures { result.now ≡ name_of self }
+        ensures { result.now ≡ configuration_key self }
     {
         match self {
             ConfigurationField::Address => "address",

@@ -5,7 +5,7 @@ ghost use Rattle.dep_configuration.specs.Fields.{bounds_of};
 ghost use Rattle.dep_configuration.specs.declared.field.Wanted.TheVariants.{AnyText, FilledText, Flag, WholeNumber};
 ghost use Rattle.dep_configuration.specs.declared.field.Wanted.TheVariants as Kind;
 ghost use Rattle.dep_configuration.specs.Faults.{Gives};
-ghost use Rattle.dep_configuration.specs.Readings.{filled_text_of, flag_of, given_number, given_text, number_of, number_within, optional_number_of, text_of, IsAddressOf};
+ghost use Rattle.dep_configuration.specs.Readings.{filled_text_of, flag_of, given_number, given_text, number_or_default, number_within, optional_number_of, text_or_default, IsAddressOf};
 
 use crate::field::{Bounds, ConfigurationField};
 use dep_octets::{Number, decimal};
@@ -22,7 +22,7 @@ pub(crate) fn text(
     default: &'static str,
 ) -> Result<Text, AllocError>
     requires { Gives field AnyText (value_view value.now) }
-    ensures { IfOk result (λ text. text_of field default.now (value_view value.now) ≡ Some text) }
+    ensures { IfOk result (λ text. text_or_default field default.now (value_view value.now) ≡ Some text) }
 {
     Text::copied(alloc, given_text(value, field).unwrap_or(default))
 }
@@ -75,7 +75,7 @@ pub(crate) fn address(value: &Value<'_>) -> IpAddr
 /// The number of a field, or the default, which has to be within its bounds.
 pub(crate) fn number(value: &Value<'_>, field: ConfigurationField, default: u64) -> u64
     requires { Gives field (WholeNumber (bounds_of field)) (value_view value.now) }
-    ensures { number_of field default (value_view value.now) ≡ Some result }
+    ensures { number_or_default field default (value_view value.now) ≡ Some result }
 {
     given_number(value, field).unwrap_or(default)
 }

@@ -17,7 +17,7 @@ use Rattle.dep_connection.proofs.ExchangeLemmas.{last_more, arrives_there, excha
 use Rattle.dep_connection.proofs.ShutTurns.{conversation_shut}
 use Rattle.dep_connection.proofs.TurnLemmas.{goes_same, goes_then}
 use Rattle.dep_connection.specs.Turns.{Turn, pieces_of, replies_of, record_of, records_of, EndsAs, last_answer, HasGoneOut, IsPiece, ArePieces, most_reads, reads_made, reads_after, with_opened, with_closed, Exchanges, none_yet, one_more, LeftByExchanges, IsEndedBy}
-use Rattle.dep_connection.specs.Conversation.{Outflow, Wire, Session, session, Transfers, GivesNothing, Clocks, Converses, IsAnswered, IsUnserved, ConversesOver, next_after, AddsAll, StopsAll, Talk, OneTurn, OpenTurn, NoTurn, TurnsTo, TalksUntil, Talks, silent, turn, ahead}
+use Rattle.dep_connection.specs.Conversation.{Outflow, Wire, Session, session, Transfers, GivesNothing, Clocks, Converses, IsAnswered, IsUnserved, ConversesOver, next_after, AddsRecords, StopsAll, Talk, OneTurn, OpenTurn, NoTurn, TurnsTo, TalksUntil, Talks, silent, turn, ahead}
 use Rattle.dep_connection.specs.declared.connection.Served.{Served}
 use Rattle.dep_connection.specs.declared.connection.Served.TheVariants.{Ended, Closed, Unserved, ReadFault, WriteFault, Bound}
 use Rattle.std.specs.Io.KnownBytes.{Appends}
@@ -361,7 +361,7 @@ module _ {A : Type 0} (condition : A → Condition) where
               (leaves_wider (store_of condition talked) _ _ (λ c l. exchanged_along opened.config old.config same_opened t.exchanges c l) t.stop);
         }
 
-    all_added : (IsClean condition new → IsHonest condition new) → AddsAll condition old new (records_of n turns)
+    all_added : (IsClean condition new → IsHonest condition new) → AddsRecords condition old new (records_of n turns)
     all_added law clean first records h =
         let a = answered (law clean) h.world h.at in
         record {

@@ -121,8 +121,8 @@ pub record CanGoOn {A C : Type 0} (callable : C → Type 0) (number : ℕ) (hub 
 module _ {A : Type 0} (condition : A → Condition) where
   -- for all records that it represented, the hub represents them with these after them, if its store
   -- is open
-  abbrev pub AddsAll : Hub A → Hub A → List Record → Type 0
-  AddsAll old new more = IsClean condition new → (first : State) (records : List Record)
+  abbrev pub AddsRecords : Hub A → Hub A → List Record → Type 0
+  AddsRecords old new more = IsClean condition new → (first : State) (records : List Record)
       → RepresentsAfter condition old first records
       → RepresentsAfter condition new first (records ++ more)
 
@@ -170,7 +170,7 @@ module _ {A : Type 0} (condition : A → Condition) where
     pub same_store : after.hub.store ≡ before.hub.store
     pub stays : (w : World) → RepresentsAt condition before.hub w
         → Leaves (store_of condition after.hub) (λ found. found ≡ w.state)
-    pub adds : AddsAll before.hub after.hub []
+    pub adds : AddsRecords before.hub after.hub []
     pub rests : Rests before.wire after.wire
     pub same_clock : after.clock ≡ before.clock
 
@@ -285,7 +285,7 @@ module _ {A : Type 0} (condition : A → Condition) (may_commit : A → Bool) (s
     pub gone : intake_of after.hub.connections.items number ≡ None
     pub answers : IsHonest condition after.hub → (w : World) → RepresentsAt condition before.hub w
         → IsAnswered condition before.hub after.hub number turns w
-    pub adds : AddsAll condition before.hub after.hub (records_of number turns)
+    pub adds : AddsRecords condition before.hub after.hub (records_of number turns)
     pub stops : StopsAll condition before.hub after.hub
         (record { event = Connect number; sent = [] } ∷ map (record_of number) turns)
     pub transfers : Transfers before.wire after.wire (pieces_of turns) (replies_of turns)

@@ -22,8 +22,8 @@ use Rattle.dep_docs_in.specs.Documents.{default_media, metadata_read, references
 use Rattle.dep_docs_in.specs.Fit.{IsFitReference}
 use Rattle.dep_docs_in.specs.declared.reference.Reference.{Reference}
 use Rattle.dep_docs_in.proofs.FitDocuments.{metadata-fit, references-fit, nothing-kept}
-use Rattle.dep_decisions.specs.Kinds.{kind_of, kind_by, kind_without, is_completion, may_hold, takes_kind}
-use Rattle.dep_decisions.specs.Decisions.{assembled_file, decision, decision_at, decision_with, deposit_by, deposit_of, files_of, ingests, opened, posted_file, received, referred_files, references_by, references_in, replaced_file, texts_of, upload_number, value_of}
+use Rattle.dep_decisions.specs.Kinds.{content_kind, kind_by, kind_without, is_completion, may_hold, takes_kind}
+use Rattle.dep_decisions.specs.Decisions.{assembled_file, decision, decision_at, decision_with, deposit_by, deposit_of, files_of, ingests, opened, posted_file, received, referred_files, references_by, references_in, replaced_file, texts_of, upload_number, field_value}
 use Rattle.dep_decisions.specs.LookUps.{in_state}
 use Rattle.dep_decisions.specs.Rules.{has_content, presence_rule, size_rule, opening_refusal, presence_refusal, received_refusal, refusal, segment_refusal, size_refusal, unless, when}
 use Rattle.dep_decisions.specs.Effects.{effect}
@@ -53,13 +53,13 @@ by_fit op (Value k) kind fit h = held_kind (takes_kind op.target.resource op.tar
 by_fit op Bad kind fit h = cc h
 by_fit op Absent kind fit h = without_kind op.target.resource op.target.method kind h
 
-kind_fit : (op : Operation) (kind : Kind) → AreFit op.fields → kind_of op ≡ Some kind → IsFitKind kind
-unfolding kind_of
+kind_fit : (op : Operation) (kind : Kind) → AreFit op.fields → content_kind op ≡ Some kind → IsFitKind kind
+unfolding content_kind
 kind_fit op kind fit h = by_fit op op.fields.disposition kind fit.kind h
 
 -- ---- deposits
 
-media_fit : (field : Field (List ℕ)) → IfValue field (λ text. IsTrue (is_media text)) → IsTrue (is_media (unwrap_or (value_of field) default_media))
+media_fit : (field : Field (List ℕ)) → IfValue field (λ text. IsTrue (is_media text)) → IsTrue (is_media (unwrap_or (field_value field) default_media))
 media_fit (Value text) fit = fit
 media_fit Bad fit = refl
 media_fit Absent fit = refl
@@ -104,9 +104,9 @@ references_by_fit config op _ = tt
 
 references_in_fit : (config : Config) (op : Operation) → AreFitReferences (references_in config op)
 unfolding references_in
-references_in_fit config op = references_by_fit config op (kind_of op)
+references_in_fit config op = references_by_fit config op (content_kind op)
 
-deposit_by_fit : (refs : Option (List Reference)) (op : Operation) (o : Option Kind) → AreFitReferences refs → AreFit op.fields → kind_of op ≡ o
+deposit_by_fit : (refs : Option (List Reference)) (op : Operation) (o : Option Kind) → AreFitReferences refs → AreFit op.fields → content_kind op ≡ o
     → Fits (option_and_then (deposit_by refs op) o)
 deposit_by_fit refs op (Some (of.File name)) good fit is = (posted_fit op name fit (kind_fit op (of.File name) fit is), tt)
 deposit_by_fit refs op (Some of.Metadata) good fit is = metadata_fits op.content (metadata_read op.content) refl
@@ -115,7 +115,7 @@ deposit_by_fit refs op _ good fit is = tt
 
 deposit_fit : (refs : Option (List Reference)) (op : Operation) → AreFitReferences refs → AreFit op.fields → Fits (deposit_of refs op)
 unfolding deposit_of
-deposit_fit refs op good fit = deposit_by_fit refs op (kind_of op) good fit refl
+deposit_fit refs op good fit = deposit_by_fit refs op (content_kind op) good fit refl
 
 -- ---- what is asked for
 
@@ -146,7 +146,7 @@ module _ (s : State) (content : List ℕ) where
   files_set n (Some (deposit.Files new)) fit = fit
   files_set n (Some (deposit.Metadata texts)) fit = tt
 
-  file_set : (op : Operation) (n f : ℕ) (o : Option Kind) → AreFit op.fields → kind_of op ≡ o → is_some (file_at s n f) ≡ true → Good (option_and_then (replaced_file op n f) o)
+  file_set : (op : Operation) (n f : ℕ) (o : Option Kind) → AreFit op.fields → content_kind op ≡ o → is_some (file_at s n f) ≡ true → Good (option_and_then (replaced_file op n f) o)
   file_set op n f (Some (of.File name)) fit is there = (posted_fit op name fit (kind_fit op (of.File name) fit is), there)
   file_set op n f _ fit is there = tt
 
@@ -160,7 +160,7 @@ opening_sizes config o e =
     (and_both (nat_le o.segment_size config.max_upload) (sizes_agree o.size o.count o.segment_size) (unless-none _ InvalidSegmentSize rows.1.1.0)).1
 
 module _ (config : Config) (s : State) (op : Operation) (fit : AreFit op.fields) where
-  opened_fit : (o : Option Kind) → kind_of op ≡ o → option_and_then (size_refusal config (in_state s) op) o ≡ None → Good s op.content (option_and_then opened o)
+  opened_fit : (o : Option Kind) → content_kind op ≡ o → option_and_then (size_refusal config (in_state s) op) o ≡ None → Good s op.content (option_and_then opened o)
   opened_fit (Some (of.Opening o)) is passed = (kind_fit op (of.Opening o) fit is, opening_sizes config o passed)
   opened_fit _ is passed = tt
 
@@ -171,7 +171,7 @@ module _ (config : Config) (s : State) (op : Operation) (fit : AreFit op.fields)
       ∙ passed
   received_fit u _ at passed = tt
 
-  sizes : size_rule config (in_state s) op ≡ None → option_and_then (size_refusal config (in_state s) op) (kind_of op) ≡ None
+  sizes : size_rule config (in_state s) op ≡ None → option_and_then (size_refusal config (in_state s) op) (content_kind op) ≡ None
   unfolding size_rule
   sizes e = e
 
@@ -190,9 +190,9 @@ module _ (config : Config) (s : State) (op : Operation) (fit : AreFit op.fields)
   asked_fit (Metadata n) Put at by e = metadata_set s op.content n (deposit_of (references_in config op) op) fits
   asked_fit (Metadata n) Delete at by e = nothing-kept
   asked_fit (FileSet n) Put at by e = files_set s op.content n (deposit_of (references_in config op) op) fits
-  asked_fit (File n f) Put at by e = file_set s op.content op n f (kind_of op) fit refl (file_there n f at (presence_passed config (in_state s) op e))
-  asked_fit Staging Post at by e = opened_fit (kind_of op) refl (sizes (content_passed config (in_state s) op e (ap has_content by)).size)
-  asked_fit (Upload u) Post at by e = received_fit u (kind_of op) at (sizes (content_passed config (in_state s) op e (ap has_content by)).size)
+  asked_fit (File n f) Put at by e = file_set s op.content op n f (content_kind op) fit refl (file_there n f at (presence_passed config (in_state s) op e))
+  asked_fit Staging Post at by e = opened_fit (content_kind op) refl (sizes (content_passed config (in_state s) op e (ap has_content by)).size)
+  asked_fit (Upload u) Post at by e = received_fit u (content_kind op) at (sizes (content_passed config (in_state s) op e (ap has_content by)).size)
   asked_fit _ _ at by e = tt
 
   pub decision_fit : refusal config s op ≡ None → IsFitDecision s op.content (decision config op)

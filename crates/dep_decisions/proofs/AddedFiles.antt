@@ -7,7 +7,7 @@ use Rattle.dep_types.specs.Names.{is_good_name, is_media}
 use Rattle.dep_types.specs.Sound.{IsSound, IsSoundFile, IsGiven}
 use Rattle.dep_types.proofs.Kept.{found}
 use Rattle.dep_types.proofs.Later.{Later, file_later}
-use Rattle.dep_decisions.specs.Effects.{added_from, added, file_from}
+use Rattle.dep_decisions.specs.Effects.{added_from, files_added, file_from}
 use Rattle.dep_decisions.specs.Fit.{IsFitFile, AreFitFiles}
 use Rattle.dep_decisions.specs.declared.decision.NewFile.{NewFile}
 
@@ -63,7 +63,7 @@ module _ (s : State) (content : List ℕ) where
 
     -- the files of an object with these new ones are sound
     pub added-sound : (new : List NewFile) (old : Numbered File) → AreFitFiles new → t.next.file ≡ s.next.file + length new
-        → ((g : ℕ) (a : File) → map.get old g ≡ Some a → IsSoundFile s g a) → (f : ℕ) (file : File) → map.get (added s content new old) f ≡ Some file → IsSoundFile t f file
+        → ((g : ℕ) (a : File) → map.get old g ≡ Some a → IsSoundFile s g a) → (f : ℕ) (file : File) → map.get (files_added s content new old) f ≡ Some file → IsSoundFile t f file
     added-sound new old fit next olds f file e = one_added f file (length new) old next olds (added-found s.next.file new old f file fit e)
 
   was_or_new : (number count : ℕ) (old : Numbered File) (f : ℕ) (file : File) → IsAdded s number count old f file → (map.get old f ≡ Some file) ⊎ (number ≤ f)
@@ -71,6 +71,6 @@ module _ (s : State) (content : List ℕ) where
   was_or_new number count old f file (inr is) = inr is.0
 
   -- and each is an old one, or has a new number
-  pub added-place : (new : List NewFile) (old : Numbered File) → AreFitFiles new → (f : ℕ) (file : File) → map.get (added s content new old) f ≡ Some file
+  pub added-place : (new : List NewFile) (old : Numbered File) → AreFitFiles new → (f : ℕ) (file : File) → map.get (files_added s content new old) f ≡ Some file
       → (map.get old f ≡ Some file) ⊎ (s.next.file ≤ f)
   added-place new old fit f file e = was_or_new s.next.file (length new) old f file (added-found s.next.file new old f file fit e)

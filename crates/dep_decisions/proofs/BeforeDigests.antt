@@ -11,7 +11,7 @@ use Rattle.dep_fields.specs.declared.kind.Kind.{Kind}
 use Rattle.dep_fields.specs.declared.kind.Kind.TheVariants as of
 use Rattle.dep_docs_in.specs.declared.reference.Reference.{Reference}
 use Rattle.dep_decisions.specs.Decisions.{upload_number}
-use Rattle.dep_decisions.specs.Kinds.{kind_of}
+use Rattle.dep_decisions.specs.Kinds.{content_kind}
 use Rattle.dep_decisions.specs.Laws.{refusal_before_room}
 use Rattle.dep_decisions.specs.LookUps.{Entry, LookUps, without_digests, without_entries}
 use Rattle.dep_decisions.specs.Rules.{access_refusal, content_by, content_refusal, digest_rule, digests_refusal, document_refusal, document_rule, each, entries_refusal, fields_refusal, has_content, is_binary, length_refusal, presence_rule, references_refusal, refusal_by, room_rule, size_refusal, size_rule, occurs_twice, tag_rule, there_refusal, unless, when, whole_refusal}
@@ -66,7 +66,7 @@ module _ {U : Type 0} (config : Config) (l : LookUps U) (op : Operation) (entrie
 
     content_before : (r : Refusal) → content_by config less op ≡ Some r → content_by config l op ≡ Some r
     unfolding content_by document_rule size_rule
-    content_before r e = behind (fields_refusal op) (digest_rule op) _ _ r (last_two (kind_of op) r) e
+    content_before r e = behind (fields_refusal op) (digest_rule op) _ _ r (last_two (content_kind op) r) e
 
     if_content : (b : Bool) (r : Refusal) → (if b then content_by config less op else None) ≡ Some r → (if b then content_by config l op else None) ≡ Some r
     if_content true r e = content_before r e
@@ -138,17 +138,17 @@ module _ {U : Type 0} (config : Config) (l : LookUps U) (op : Operation) where
   same_size (Some of.References) = refl
   same_size _ = refl
 
-  same_content : kind_of op ≢ Some of.References → content_refusal config (without_digests l) op ≡ content_refusal config l op
+  same_content : content_kind op ≢ Some of.References → content_refusal config (without_digests l) op ≡ content_refusal config l op
   unfolding content_refusal content_by document_rule size_rule
   same_content other =
-      let document = same_document (kind_of op) other in
-      let size = same_size (kind_of op) in
+      let document = same_document (content_kind op) other in
+      let size = same_size (content_kind op) in
       (λ i. if has_content op.target.method then first_of (fields_refusal op ∷ digest_rule op ∷ document i ∷ size i ∷ []) else None)
 
   same_room : room_rule config (without_digests l) op ≡ room_rule config l op
   unfolding room_rule
   same_room = refl
 
-  pub for_references : kind_of op ≢ Some of.References → refusal_by config (without_digests l) op ≡ refusal_by config l op
+  pub for_references : content_kind op ≢ Some of.References → refusal_by config (without_digests l) op ≡ refusal_by config l op
   unfolding refusal_by
   for_references other = (λ i. first_of (access_same config l op l.entries (λ u. None) i ∷ same_content other i ∷ same_room i ∷ []))

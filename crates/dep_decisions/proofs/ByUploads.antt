@@ -11,7 +11,7 @@ use Rattle.dep_docs_in.specs.declared.reference.Reference.{Reference}
 use Rattle.dep_docs_in.specs.declared.reference.Pointed.{Pointed}
 use Rattle.dep_docs_in.specs.declared.reference.Pointed.TheVariants.{Upload as AnUpload, Elsewhere}
 use Rattle.dep_decisions.specs.Decisions.{references_in, upload_number}
-use Rattle.dep_decisions.specs.Kinds.{kind_of}
+use Rattle.dep_decisions.specs.Kinds.{content_kind}
 use Rattle.dep_decisions.specs.Laws.{refusal_before_room, segments_refusal, uploads_refusal}
 use Rattle.dep_decisions.specs.LookUps.{Entry, LookUps, entry_at, in_state, known_of, without_entries}
 use Rattle.dep_decisions.specs.Rules.{access_refusal, content_by, content_refusal, digest_rule, digests_refusal, document_refusal, document_rule, each, entries_refusal, fields_refusal, length_refusal, refusal, references_refusal, refusal_by, room_rule, size_refusal, size_rule, there_refusal, upload_refusal, whole_refusal}
@@ -48,7 +48,7 @@ module _ (s : State) (rule : Entry Upload → Option Refusal) (reported : ℕ �
       one_more Elsewhere later = later
       one_more (AnUpload u) later = first_same _ _ _ _ (same r u) later
 
-module _ {U : Type 0} (config : Config) (l : LookUps U) (op : Operation) (refs : List Reference) (is : kind_of op ≡ Some of.References) (in_op : l.references config op ≡ Some refs) where
+module _ {U : Type 0} (config : Config) (l : LookUps U) (op : Operation) (refs : List Reference) (is : content_kind op ≡ Some of.References) (in_op : l.references config op ≡ Some refs) where
   abbrev entries_by : (m : LookUps U) → Option Refusal
   entries_by m = first_of (fields_refusal op ∷ digest_rule op ∷ entries_refusal m refs ∷ None ∷ [])
 
@@ -89,7 +89,7 @@ module _ {U : Type 0} (config : Config) (l : LookUps U) (op : Operation) (refs :
       (λ i. first_of (access i ∷ found i ∷ room_rule config l op ∷ []))
 
 -- the same by the numbers of the uploads
-pub refused_by_uploads : (config : Config) (s : State) (op : Operation) (refs : List Reference) (r : Refusal) → kind_of op ≡ Some of.References → references_in config op ≡ Some refs
+pub refused_by_uploads : (config : Config) (s : State) (op : Operation) (refs : List Reference) (r : Refusal) → content_kind op ≡ Some of.References → references_in config op ≡ Some refs
     → refusal_before_room config (without_entries (in_state s)) op ≡ None → uploads_refusal (in_state s) (filter_map (λ (r : Reference). upload_number r.target) refs) ≡ Some r → refusal config s op ≡ Some r
 refused_by_uploads config s op refs r is in_op passed refused =
     let there = by_name s there_refusal (upload_refusal (in_state s)) (λ r u. refl) refs in

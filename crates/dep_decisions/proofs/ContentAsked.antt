@@ -12,7 +12,7 @@ use Rattle.dep_docs_in.specs.Documents.{metadata_read}
 use Rattle.dep_docs_in.specs.declared.reference.Reference.{Reference}
 use Rattle.dep_decisions.specs.Asked.{asked_at, deposited_in, filed_in, received_in, undeposited_in}
 use Rattle.dep_decisions.specs.Decisions.{decision_with, deposit_by, deposit_of, files_of, ingests, opened, posted_file, received, referred_files, replaced_file, texts_of}
-use Rattle.dep_decisions.specs.Kinds.{is_completion, is_deposit, kind_of, takes_kind}
+use Rattle.dep_decisions.specs.Kinds.{is_completion, is_deposit, content_kind, takes_kind}
 use Rattle.dep_decisions.specs.declared.operation.Operation.{Operation}
 use Rattle.dep_decisions.specs.declared.decision.Deposit.{Deposit}
 use Rattle.dep_decisions.specs.declared.decision.Deposit.TheVariants as deposit
@@ -22,7 +22,7 @@ use Rattle.dep_decisions.proofs.Taken.{taken, uncompleted}
 
 -- ---- a kind that deposits something
 
-deposit_is : (refs : Option (List Reference)) (op : Operation) (k : Kind) → kind_of op ≡ Some k → deposit_of refs op ≡ deposit_by refs op k
+deposit_is : (refs : Option (List Reference)) (op : Operation) (k : Kind) → content_kind op ≡ Some k → deposit_of refs op ≡ deposit_by refs op k
 unfolding deposit_of
 deposit_is refs op k e = ap (λ (o : Option Kind). option_and_then (deposit_by refs op) o) e
 
@@ -61,7 +61,7 @@ not_filed n f _ d apart t = cc t
 abbrev made_of : Operation → Resource → Method → Option Deposit → Decision
 made_of op r m o = unwrap_or (option_map (λ d. deposited_in (ingests op) d r m) o) Show
 
-module _ (refs : Option (List Reference)) (op : Operation) (k : Kind) (is : kind_of op ≡ Some k) (deposits : is_deposit k ≡ true) where
+module _ (refs : Option (List Reference)) (op : Operation) (k : Kind) (is : content_kind op ≡ Some k) (deposits : is_deposit k ≡ true) where
   by_target : (r : Resource) (m : Method) → is_apart k r ≡ false → takes_kind r m k ≡ true → asked_at refs op r m ≡ made_of op r m (deposit_of refs op)
   by_target Service Post a t = refl
   by_target (Object n) Post a t =
@@ -83,7 +83,7 @@ module _ (refs : Option (List Reference)) (op : Operation) (k : Kind) (is : kind
 
 -- ---- a file
 
-module _ (refs : Option (List Reference)) (op : Operation) (name : List ℕ) (is : kind_of op ≡ Some (of.File name)) where
+module _ (refs : Option (List Reference)) (op : Operation) (name : List ℕ) (is : content_kind op ≡ Some (of.File name)) where
   through : (r : Resource) (m : Method) → is_apart (of.File name) r ≡ false → takes_kind r m (of.File name) ≡ true
       → deposited_in (ingests op) (deposit.Files (posted_file op name ∷ [])) r m ≡ asked_at refs op r m
   through r m a t =
@@ -112,7 +112,7 @@ module _ (refs : Option (List Reference)) (op : Operation) where
   texts_through None = refl
   texts_through (Some texts) = refl
 
-  pub texts_asked : (metadata : Option Texts) → kind_of op ≡ Some of.Metadata → metadata ≡ metadata_read op.content → of_texts metadata ≡ decision_with refs op
+  pub texts_asked : (metadata : Option Texts) → content_kind op ≡ Some of.Metadata → metadata ≡ metadata_read op.content → of_texts metadata ≡ decision_with refs op
   texts_asked metadata is read = ap of_texts read ∙ texts_through (metadata_read op.content) ∙ by_deposit refs op of.Metadata is refl refl
 
   entries_through : (o : Option (List Reference))
@@ -120,31 +120,31 @@ module _ (refs : Option (List Reference)) (op : Operation) where
   entries_through None = refl
   entries_through (Some entries) = refl
 
-  pub entries_asked : kind_of op ≡ Some of.References → of_entries refs ≡ decision_with refs op
+  pub entries_asked : content_kind op ≡ Some of.References → of_entries refs ≡ decision_with refs op
   entries_asked is = entries_through refs ∙ by_deposit refs op of.References is refl refl
 
 -- ---- where nothing is deposited
 
 module _ (refs : Option (List Reference)) (op : Operation) where
-  opening_at : (o : Opening) → kind_of op ≡ Some (of.Opening o) → (r : Resource) (m : Method) → takes_kind r m (of.Opening o) ≡ true → Open o ≡ asked_at refs op r m
+  opening_at : (o : Opening) → content_kind op ≡ Some (of.Opening o) → (r : Resource) (m : Method) → takes_kind r m (of.Opening o) ≡ true → Open o ≡ asked_at refs op r m
   opening_at o is Staging Post t = sym (ap (λ (k : Option Kind). unwrap_or (option_and_then opened k) Show) is)
   opening_at o is _ Post t = cc t
   opening_at o is _ _ t = cc t
 
-  segment_at : (k : ℕ) → kind_of op ≡ Some (of.Segment k) → (r : Resource) (m : Method) → takes_kind r m (of.Segment k) ≡ true → received_in k r ≡ asked_at refs op r m
+  segment_at : (k : ℕ) → content_kind op ≡ Some (of.Segment k) → (r : Resource) (m : Method) → takes_kind r m (of.Segment k) ≡ true → received_in k r ≡ asked_at refs op r m
   segment_at k is (Upload u) Post t = sym (ap (λ (o : Option Kind). unwrap_or (option_and_then (received u) o) Show) is)
   segment_at k is _ Post t = cc t
   segment_at k is _ _ t = cc t
 
-  pub opening_asked : (o : Opening) → kind_of op ≡ Some (of.Opening o) → Open o ≡ decision_with refs op
+  pub opening_asked : (o : Opening) → content_kind op ≡ Some (of.Opening o) → Open o ≡ decision_with refs op
   unfolding decision_with
   opening_asked o is = opening_at o is op.target.resource op.target.method (taken op (of.Opening o) is)
 
-  pub segment_asked : (k : ℕ) → kind_of op ≡ Some (of.Segment k) → received_in k op.target.resource ≡ decision_with refs op
+  pub segment_asked : (k : ℕ) → content_kind op ≡ Some (of.Segment k) → received_in k op.target.resource ≡ decision_with refs op
   unfolding decision_with
   segment_asked k is = segment_at k is op.target.resource op.target.method (taken op (of.Segment k) is)
 
-nothing : (refs : Option (List Reference)) (op : Operation) → kind_of op ≡ None → deposit_of refs op ≡ None
+nothing : (refs : Option (List Reference)) (op : Operation) → content_kind op ≡ None → deposit_of refs op ≡ None
 unfolding deposit_of
 nothing refs op is = ap (λ (o : Option Kind). option_and_then (deposit_by refs op) o) is
 
@@ -153,7 +153,7 @@ completed : (n : ℕ) (b i : Bool) (o : Option Deposit) → o ≡ None
 completed n true i o e = refl
 completed n false i o e = sym (ap (λ (x : Option Deposit). unwrap_or (option_map (λ d. Append n d i) x) Show) e)
 
-module _ (refs : Option (List Reference)) (op : Operation) (none : kind_of op ≡ None) where
+module _ (refs : Option (List Reference)) (op : Operation) (none : content_kind op ≡ None) where
   without : (r : Resource) (m : Method) → undeposited_in op r m ≡ asked_at refs op r m
   without Service Post = sym (ap (λ (o : Option Deposit). unwrap_or (option_map (λ d. Create d (ingests op)) o) Show) (nothing refs op none))
   without (Object n) Post = completed n (is_completion op) (ingests op) (deposit_of refs op) (nothing refs op none)
@@ -168,6 +168,6 @@ module _ (refs : Option (List Reference)) (op : Operation) (none : kind_of op �
   without _ Delete = refl
   without _ _ = refl
 
-pub undeposited_asked : (refs : Option (List Reference)) (op : Operation) → kind_of op ≡ None → undeposited_in op op.target.resource op.target.method ≡ decision_with refs op
+pub undeposited_asked : (refs : Option (List Reference)) (op : Operation) → content_kind op ≡ None → undeposited_in op op.target.resource op.target.method ≡ decision_with refs op
 unfolding decision_with
 undeposited_asked refs op none = without refs op none op.target.resource op.target.method

@@ -19,11 +19,11 @@ use Rattle.dep_params.proofs.Runs.{and_both}
 use Rattle.dep_fields.specs.declared.kind.Kind.{Kind}
 use Rattle.dep_fields.specs.declared.kind.Kind.TheVariants as of
 use Rattle.dep_docs_in.specs.declared.reference.Reference.{Reference}
-use Rattle.dep_decisions.specs.Kinds.{is_completion, kind_of, takes_kind}
+use Rattle.dep_decisions.specs.Kinds.{is_completion, content_kind, takes_kind}
 use Rattle.dep_decisions.specs.Decisions.{appended_or_completed, assembled_file, decision_at, decision_with, deposit_by, deposit_of, files_of, ingests, references_by, references_in, referred_files}
 use Rattle.dep_decisions.specs.LookUps.{has_object, in_state, promised_of}
 use Rattle.dep_decisions.specs.Rules.{document_refusal, document_rule, presence_rule, entries_refusal, presence_refusal, references_refusal, refusal, unless}
-use Rattle.dep_decisions.specs.Effects.{added, appended, at, effect, effect_of, file_from, filled, ingested_by, uploads_of, with_files, without}
+use Rattle.dep_decisions.specs.Effects.{files_added, appended, at, effect, effect_of, file_from, filled, ingested_by, uploads_of, with_other_files, without}
 use Rattle.dep_decisions.specs.declared.operation.Operation.{Operation}
 use Rattle.dep_decisions.specs.declared.decision.NewFile.{NewFile}
 use Rattle.dep_decisions.specs.declared.decision.Deposit.{Deposit}
@@ -44,9 +44,9 @@ kind_read_as : (config : Config) (op : Operation) (refs : List Reference) (o : O
 kind_read_as config op refs (Some of.References) e = refl
 kind_read_as config op refs _ e = cc e
 
-pub kind_is : (config : Config) (op : Operation) (refs : List Reference) → references_in config op ≡ Some refs → kind_of op ≡ Some of.References
+pub kind_is : (config : Config) (op : Operation) (refs : List Reference) → references_in config op ≡ Some refs → content_kind op ≡ Some of.References
 unfolding references_in
-kind_is config op refs e = kind_read_as config op refs (kind_of op) e
+kind_is config op refs e = kind_read_as config op refs (content_kind op) e
 
 -- ---- the file
 
@@ -68,7 +68,7 @@ module _ (s : State) (op : Operation) (refs : Option (List Reference)) (new : Li
       → option_and_then (λ (x : state.Object). finmap.get x.files (s.next.file + i)) (finmap.get m n) ≡ Some (file_from s op.content one)
   files_at n o m there has = ap (option_and_then (λ (x : state.Object). finmap.get x.files (s.next.file + i))) there ∙ has
 
-  new_at : (old : Numbered state.File) → finmap.get (added s op.content new old) (s.next.file + i) ≡ Some (file_from s op.content one)
+  new_at : (old : Numbered state.File) → finmap.get (files_added s op.content new old) (s.next.file + i) ≡ Some (file_from s op.content one)
   new_at old = added-at s.next.file s op.content new old i one placed
 
   object_at : (n : ℕ) → unless (has_object s n) NotFound ≡ None → (o : state.Object) × (finmap.get s.objects n ≡ Some o)
@@ -103,8 +103,8 @@ module _ (s : State) (op : Operation) (refs : Option (List Reference)) (new : Li
 
   set_to : (n : ℕ) → ((o : state.Object) × (finmap.get s.objects n ≡ Some o)) → Has (SetFiles n new) n
   set_to n o = record {
-    at_number = files_at n (with_files s (added s op.content new finmap.empty) o.0) (at s.objects n (with_files s (added s op.content new finmap.empty)))
-        (changed_at n (with_files s (added s op.content new finmap.empty)) o.0 o.1) (new_at finmap.empty);
+    at_number = files_at n (with_other_files s (files_added s op.content new finmap.empty) o.0) (at s.objects n (with_other_files s (files_added s op.content new finmap.empty)))
+        (changed_at n (with_other_files s (files_added s op.content new finmap.empty)) o.0 o.1) (new_at finmap.empty);
     gone = up;
   }
 
@@ -124,7 +124,7 @@ module _ (s : State) (op : Operation) (refs : Option (List Reference)) (new : Li
 
 -- ---- the deposit
 
-deposits_by : (refs : Option (List Reference)) (op : Operation) (entries : List Reference) → refs ≡ Some entries → kind_of op ≡ Some of.References
+deposits_by : (refs : Option (List Reference)) (op : Operation) (entries : List Reference) → refs ≡ Some entries → content_kind op ≡ Some of.References
     → deposit_of refs op ≡ Some (Files (referred_files op entries))
 unfolding deposit_of
 deposits_by refs op entries is kind =
@@ -132,7 +132,7 @@ deposits_by refs op entries is kind =
     ∙ ap (λ (o : Option (List Reference)). option_map (λ entries. Files (referred_files op entries)) o) is
 
 module _ (config : Config) (s : State) (op : Operation) (refs : List Reference) (read : references_in config op ≡ Some refs) where
-  kind : kind_of op ≡ Some of.References
+  kind : content_kind op ≡ Some of.References
   kind = kind_is config op refs read
 
   document : document_rule config (in_state s) op ≡ None → entries_refusal (in_state s) refs ≡ None

@@ -15,9 +15,9 @@ use Rattle.dep_types.proofs.Kept.{get-insert_same, get-insert_other, tied}
 use Rattle.dep_fields.specs.declared.kind.Kind.{Kind}
 use Rattle.dep_fields.specs.declared.kind.Kind.TheVariants as of
 use Rattle.dep_docs_in.specs.declared.reference.Reference.{Reference}
-use Rattle.dep_decisions.specs.Kinds.{kind_of, is_completion}
+use Rattle.dep_decisions.specs.Kinds.{content_kind, is_completion}
 use Rattle.dep_decisions.specs.Decisions.{decision_at, decision_with, deposit_of, files_of, ingests, opened, received, references_in, replaced_file, texts_of}
-use Rattle.dep_decisions.specs.Effects.{appended, at, changed, effect, file_from, filled, ingested_by, objects_after, with_files, with_texts}
+use Rattle.dep_decisions.specs.Effects.{appended, at, changed, effect, file_from, filled, ingested_by, objects_after, with_other_files, with_other_texts}
 use Rattle.dep_decisions.specs.declared.operation.Operation.{Operation}
 use Rattle.dep_decisions.specs.declared.decision.Deposit.{Deposit}
 use Rattle.dep_decisions.specs.declared.decision.Deposit.TheVariants.{Files, Metadata}
@@ -102,13 +102,13 @@ module _ (s : State) (content : List ℕ) (n f : ℕ) (file : File) (low : f < s
       changed_at n f file s.objects k (λ o. ingested_by ingests (appended s content d o)) (n == k) refl (λ same. appended_has d ingests) h
   kept (Replace k d ingests) spares h = changed_at n f file s.objects k _ (n == k) refl (λ same. absurd (spares same)) h
   kept (Complete k) spares h = changed_at n f file s.objects k (λ o. ingested_by true (changed s o)) (n == k) refl (λ same o has. has) h
-  kept (SetMetadata k texts) spares h = changed_at n f file s.objects k (with_texts s texts) (n == k) refl (λ same o has. has) h
+  kept (SetMetadata k texts) spares h = changed_at n f file s.objects k (with_other_texts s texts) (n == k) refl (λ same o has. has) h
   kept (SetFiles k new) spares h = changed_at n f file s.objects k _ (n == k) refl (λ same. absurd (spares same)) h
   kept (SetFile k g new) spares h =
-      changed_at n f file s.objects k (λ o. with_files s (map.insert o.files g (file_from s content new)) o) (n == k) refl
+      changed_at n f file s.objects k (λ o. with_other_files s (map.insert o.files g (file_from s content new)) o) (n == k) refl
       (λ same o has. get-insert_other o.files g (file_from s content new) f (spares same) ∙ has) h
   kept (DropFile k g) spares h =
-      changed_at n f file s.objects k (λ o. with_files s (map.remove o.files g) o) (n == k) refl
+      changed_at n f file s.objects k (λ o. with_other_files s (map.remove o.files g) o) (n == k) refl
       (λ same o has. get-remove_other o.files g f (spares same) ∙ has) h
   kept (DropObject k) spares h = removed n f file s.objects k spares h
   kept _ spares h = h
@@ -145,10 +145,10 @@ module _ (s : State) (content : List ℕ) (n f : ℕ) (file : File) (low : f < s
   spared refs op (at_resource.Metadata k) Put e = spared_map (option_and_then texts_of (deposit_of refs op)) (λ texts. SetMetadata k texts) (λ texts. tt)
   spared refs op (at_resource.FileSet k) Put e = spared_map (option_and_then files_of (deposit_of refs op)) (λ new. SetFiles k new) (λ new. apart_by k n e)
   spared refs op (at_resource.FileSet k) Delete e = apart_by k n e
-  spared refs op (at_resource.File k g) Put e = spared_file op k g (kind_of op) (apart_if_same k n g f e)
+  spared refs op (at_resource.File k g) Put e = spared_file op k g (content_kind op) (apart_if_same k n g f e)
   spared refs op (at_resource.File k g) Delete e = apart_if_same k n g f e
-  spared refs op at_resource.Staging Post e = spared_opening (kind_of op)
-  spared refs op (at_resource.Upload u) Post e = spared_segment u (kind_of op)
+  spared refs op at_resource.Staging Post e = spared_opening (content_kind op)
+  spared refs op (at_resource.Upload u) Post e = spared_segment u (content_kind op)
   spared refs op _ _ e = tt
 
   kept_by : (refs : Option (List Reference)) (op : Operation) → takes_file n f op.target ≡ false → HasFile n f file s.objects

@@ -8,7 +8,7 @@ use Rattle.std.specs.FinMap as map
 use Rattle.dep_types.specs.Maps.{Numbered, first_of}
 use Rattle.dep_types.specs.State.{Texts, Upload}
 use Rattle.dep_types.specs.declared.refusal.Refusal.{Refusal}
-use Rattle.dep_docs_in.specs.Fit.{IsKept, AreKept}
+use Rattle.dep_docs_in.specs.Fit.{IsKeptName, AreKept}
 use Rattle.dep_types.specs.MetadataEntries.{joined}
 use Rattle.dep_decisions.specs.Effects.{at, without}
 use Rattle.dep_decisions.specs.Rules.{unless}
@@ -70,11 +70,11 @@ nothing_named name texts e = let none = map.get-empty {X = List (List ℕ)} (sli
 
 -- each name that is found is kept, and has a text
 abbrev pub AreNamed : Texts → Type 0
-AreNamed m = (name : List ℕ) (texts : List (List ℕ)) → map.get m name ≡ Some texts → IsKept name texts
+AreNamed m = (name : List ℕ) (texts : List (List ℕ)) → map.get m name ≡ Some texts → IsKeptName name texts
 
-named-cond : (b : Bool) (o : Option (List (List ℕ))) (name : List ℕ) (new texts : List (List ℕ)) → (b ≡ true → IsKept name new)
-    → ((old : List (List ℕ)) → o ≡ Some old → IsKept name old) → cond b (Some new) o ≡ Some texts → IsKept name texts
-named-cond true o name new texts is was e = let same : new ≡ texts = cc e in subst (IsKept name) same (is refl)
+named-cond : (b : Bool) (o : Option (List (List ℕ))) (name : List ℕ) (new texts : List (List ℕ)) → (b ≡ true → IsKeptName name new)
+    → ((old : List (List ℕ)) → o ≡ Some old → IsKeptName name old) → cond b (Some new) o ≡ Some texts → IsKeptName name texts
+named-cond true o name new texts is was e = let same : new ≡ texts = cc e in subst (IsKeptName name) same (is refl)
 named-cond false o name new texts is was e = was texts e
 
 same-name : (q name : List ℕ) → eq_by_cmp (slice_cmp nat_cmp) q name ≡ true → q ≡ name
@@ -84,10 +84,10 @@ same-name q name e = elim (slice_cmp nat_cmp q name) as (λ r. slice_cmp nat_cmp
   | Greater ↦ λ r e. absurd (cc e)
 ] refl e
 
-named-insert : (m : Texts) (name : List ℕ) (texts : List (List ℕ)) → IsKept name texts → AreNamed m → AreNamed (map.insert m name texts)
+named-insert : (m : Texts) (name : List ℕ) (texts : List (List ℕ)) → IsKeptName name texts → AreNamed m → AreNamed (map.insert m name texts)
 named-insert m name texts is was q found e =
     named-cond (eq_by_cmp (slice_cmp nat_cmp) q name) (map.get m q) q texts found
-    (λ same. subst (λ (n : List ℕ). IsKept n texts) (sym (same-name q name same)) is)
+    (λ same. subst (λ (n : List ℕ). IsKeptName n texts) (sym (same-name q name same)) is)
     (λ old there. was q old there)
     (sym (map.get-insert nat_list_cmp_total m name texts q) ∙ e)
 

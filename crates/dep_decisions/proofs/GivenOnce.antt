@@ -7,7 +7,7 @@ use Rattle.dep_types.specs.Sound.{IsSound}
 use Rattle.dep_types.specs.Numbers.{room_for}
 use Rattle.dep_types.proofs.Kept.{found}
 use Rattle.dep_decisions.specs.Decisions.{numbers_for}
-use Rattle.dep_decisions.specs.Effects.{appended, at, changed, effect_of, filled, fresh, ingested_by, used, with_files, with_segment, with_texts, without, added, file_from}
+use Rattle.dep_decisions.specs.Effects.{appended, at, changed, effect_of, filled, fresh, ingested_by, used, with_other_files, with_segment, with_other_texts, without, files_added, file_from}
 use Rattle.dep_decisions.specs.declared.decision.Deposit.{Deposit}
 use Rattle.dep_decisions.specs.declared.decision.Deposit.TheVariants.{Files, Metadata}
 use Rattle.dep_decisions.specs.declared.decision.Decision.{Decision}
@@ -65,10 +65,10 @@ module _ (s : State) (content : List ℕ) where
   kept_or_changed (Append k d ingests) n o e = changed_at k (λ o. ingested_by ingests (appended s content d o)) (appended_tag s content d ingests) n o e
   kept_or_changed (Replace k d ingests) n o e = changed_at k (λ o. filled s content d (o.ingested || ingests)) (λ y. filled_tag s content d (y.ingested || ingests)) n o e
   kept_or_changed (Complete k) n o e = changed_at k (λ o. ingested_by true (changed s o)) (λ y. refl) n o e
-  kept_or_changed (SetMetadata k texts) n o e = changed_at k (with_texts s texts) (λ y. refl) n o e
-  kept_or_changed (SetFiles k new) n o e = changed_at k (with_files s (added s content new map.empty)) (λ y. refl) n o e
-  kept_or_changed (SetFile k f new) n o e = changed_at k (λ o. with_files s (map.insert o.files f (file_from s content new)) o) (λ y. refl) n o e
-  kept_or_changed (DropFile k f) n o e = changed_at k (λ o. with_files s (map.remove o.files f) o) (λ y. refl) n o e
+  kept_or_changed (SetMetadata k texts) n o e = changed_at k (with_other_texts s texts) (λ y. refl) n o e
+  kept_or_changed (SetFiles k new) n o e = changed_at k (with_other_files s (files_added s content new map.empty)) (λ y. refl) n o e
+  kept_or_changed (SetFile k f new) n o e = changed_at k (λ o. with_other_files s (map.insert o.files f (file_from s content new)) o) (λ y. refl) n o e
+  kept_or_changed (DropFile k f) n o e = changed_at k (λ o. with_other_files s (map.remove o.files f) o) (λ y. refl) n o e
   kept_or_changed (DropObject k) n o e = inl (left-was s.objects k n o e)
   kept_or_changed _ n o e = inl e
 

@@ -3,7 +3,7 @@ use Rattle.std.proofs.Common.{◌≡◌, ◌∙◌, ◌⊎◌, inl, inr, ℕ, �
 use Rattle.std.specs.FinMap as map
 use Rattle.dep_types.specs.State.{State, Object}
 use Rattle.dep_types.proofs.Kept.{found}
-use Rattle.dep_decisions.specs.Effects.{appended, at, changed, effect_of, filled, ingested_by, with_files, with_texts, added, file_from}
+use Rattle.dep_decisions.specs.Effects.{appended, at, changed, effect_of, filled, ingested_by, with_other_files, with_other_texts, files_added, file_from}
 use Rattle.dep_decisions.specs.declared.decision.Deposit.{Deposit}
 use Rattle.dep_decisions.specs.declared.decision.Deposit.TheVariants.{Files, Metadata}
 use Rattle.dep_decisions.specs.declared.decision.Decision.{Decision}
@@ -47,9 +47,9 @@ module _ (s : State) (content : List ℕ) (n : ℕ) (o now : Object) (was : map.
   stays_ingested low (Append k d ingests) e = changed_so k (λ o. ingested_by ingests (appended s content d o)) (appended_ingested s content d ingests) e
   stays_ingested low (Replace k d ingests) e = changed_so k (λ o. filled s content d (o.ingested || ingests)) (λ y h. filled_ingested s content d (y.ingested || ingests) (either_true y.ingested ingests h)) e
   stays_ingested low (Complete k) e = changed_so k (λ o. ingested_by true (changed s o)) (λ y h. either_true y.ingested true h) e
-  stays_ingested low (SetMetadata k texts) e = changed_so k (with_texts s texts) (λ y h. h) e
-  stays_ingested low (SetFiles k new) e = changed_so k (with_files s (added s content new map.empty)) (λ y h. h) e
-  stays_ingested low (SetFile k f new) e = changed_so k (λ o. with_files s (map.insert o.files f (file_from s content new)) o) (λ y h. h) e
-  stays_ingested low (DropFile k f) e = changed_so k (λ o. with_files s (map.remove o.files f) o) (λ y h. h) e
+  stays_ingested low (SetMetadata k texts) e = changed_so k (with_other_texts s texts) (λ y h. h) e
+  stays_ingested low (SetFiles k new) e = changed_so k (with_other_files s (files_added s content new map.empty)) (λ y h. h) e
+  stays_ingested low (SetFile k f new) e = changed_so k (λ o. with_other_files s (map.insert o.files f (file_from s content new)) o) (λ y h. h) e
+  stays_ingested low (DropFile k f) e = changed_so k (λ o. with_other_files s (map.remove o.files f) o) (λ y h. h) e
   stays_ingested low (DropObject k) e = unchanged (left-was s.objects k n now e)
   stays_ingested low _ e = unchanged e

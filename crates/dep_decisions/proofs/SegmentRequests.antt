@@ -12,7 +12,7 @@ use Rattle.dep_types.specs.declared.target.Target.{Target}
 use Rattle.dep_types.specs.declared.target.Resource.TheVariants as at_resource
 use Rattle.dep_fields.specs.declared.kind.Kind.{Kind}
 use Rattle.dep_fields.specs.declared.kind.Kind.TheVariants as of
-use Rattle.dep_decisions.specs.Kinds.{kind_of}
+use Rattle.dep_decisions.specs.Kinds.{content_kind}
 use Rattle.dep_decisions.specs.Decisions.{decision, decision_at, decision_with, numbers_for, received, references_in}
 use Rattle.dep_decisions.specs.LookUps.{in_state, tag_at}
 use Rattle.dep_decisions.specs.Rules.{access_refusal, content_by, content_refusal, document_refusal, document_rule, has_content, presence_refusal, presence_rule, reads_alone, received_refusal, refusal, refusal_by, room_rule, segment_refusal, size_refusal, size_rule, tag_refusal, tag_rule, unless}
@@ -26,7 +26,7 @@ use Rattle.dep_decisions.proofs.Passed.{behalf_passed, content_passed, presence_
 use Rattle.dep_decisions.proofs.ReadAlone.{none_taken}
 use Rattle.dep_decisions.proofs.Referred.{upload_there}
 
-module _ (config : Config) (op : Operation) (u k : ℕ) (target : op.target ≡ posted_to u) (kind : kind_of op ≡ Some (of.Segment k)) where
+module _ (config : Config) (op : Operation) (u k : ℕ) (target : op.target ≡ posted_to u) (kind : content_kind op ≡ Some (of.Segment k)) where
   asked : decision config op ≡ Receive u k
   unfolding decision_with
   asked =

@@ -9,7 +9,7 @@ use Rattle.dep_fields.specs.declared.field.Field.{Field}
 use Rattle.dep_fields.specs.declared.field.Field.TheVariants.{Absent, Bad, Value}
 use Rattle.dep_fields.specs.declared.kind.Kind.{Kind}
 use Rattle.dep_fields.specs.declared.kind.Kind.TheVariants as of
-use Rattle.dep_decisions.specs.Kinds.{is_absent, is_completion, kind_by, kind_of, kind_without, may_complete, may_hold, takes_kind}
+use Rattle.dep_decisions.specs.Kinds.{is_absent, is_completion, kind_by, content_kind, kind_without, may_complete, may_hold, takes_kind}
 use Rattle.dep_decisions.specs.Rules.{has_content}
 use Rattle.dep_decisions.specs.declared.operation.Operation.{Operation}
 
@@ -28,8 +28,8 @@ taken_by op Bad k e = cc e
 taken_by op Absent k e = taken_without op.target.resource op.target.method k e
 
 -- the target takes it
-pub taken : (op : Operation) (k : Kind) → kind_of op ≡ Some k → takes_kind op.target.resource op.target.method k ≡ true
-unfolding kind_of
+pub taken : (op : Operation) (k : Kind) → content_kind op ≡ Some k → takes_kind op.target.resource op.target.method k ≡ true
+unfolding content_kind
 taken op k e = taken_by op op.fields.disposition k e
 
 takes_content : (resource : Resource) (method : Method) (k : Kind) → takes_kind resource method k ≡ true → has_content method ≡ true
@@ -39,7 +39,7 @@ takes_content _ Put k e = refl
 takes_content _ _ k e = cc e
 
 -- the method has a content
-pub content_taken : (op : Operation) (k : Kind) → kind_of op ≡ Some k → has_content op.target.method ≡ true
+pub content_taken : (op : Operation) (k : Kind) → content_kind op ≡ Some k → has_content op.target.method ≡ true
 content_taken op k e = takes_content op.target.resource op.target.method k (taken op k e)
 
 uncompleted_without : (resource : Resource) (method : Method) (k : Kind) → kind_without resource method ≡ Some k → may_complete resource method ≡ false
@@ -59,7 +59,7 @@ uncompleted_by op Bad k e = cc e
 uncompleted_by op Absent k e = ap (λ (b : Bool). b && true) (uncompleted_without op.target.resource op.target.method k e)
 
 -- no object is completed
-pub uncompleted : (op : Operation) (k : Kind) → kind_of op ≡ Some k → is_completion op ≡ false
-unfolding is_completion kind_of
+pub uncompleted : (op : Operation) (k : Kind) → content_kind op ≡ Some k → is_completion op ≡ false
+unfolding is_completion content_kind
 uncompleted op k e =
     and_neither (may_complete op.target.resource op.target.method) (is_absent op.fields.disposition) _ _ (uncompleted_by op op.fields.disposition k e)

@@ -10,7 +10,7 @@ use Rattle.dep_fields.specs.declared.kind.Kind.TheVariants as of
 use Rattle.dep_docs_in.specs.Documents.{metadata_read}
 use Rattle.dep_docs_in.specs.declared.reference.Reference.{Reference}
 use Rattle.dep_decisions.specs.Decisions.{decision_at, ingests, posted_file, referred_files}
-use Rattle.dep_decisions.specs.Kinds.{is_completion, kind_of}
+use Rattle.dep_decisions.specs.Kinds.{is_completion, content_kind}
 use Rattle.dep_decisions.specs.declared.asked.ReadContent.{ReadContent}
 use Rattle.dep_decisions.specs.declared.decision.NewFile.{NewFile}
 use Rattle.dep_decisions.specs.declared.decision.Deposit.{Deposit}
@@ -21,7 +21,7 @@ use Rattle.dep_decisions.specs.declared.operation.Operation.{Operation}
 
 -- what was read of the content is there where it is needed, and is of this content
 pub record IsRead (op : Operation) (read : ReadContent) : Type 0 where
-  pub metadata : kind_of op ≡ Some of.Metadata → read.metadata ≡ metadata_read op.content
+  pub metadata : content_kind op ≡ Some of.Metadata → read.metadata ≡ metadata_read op.content
   pub digests : IfSome read.digests (λ d. d ≡ digests_of op.content)
 
 -- what is asked for, where nothing is asked for it is shown

@@ -19,9 +19,9 @@ use Rattle.dep_docs_in.specs.Documents.{default_media, metadata_read, references
 use Rattle.dep_docs_in.specs.declared.reference.Reference.{Reference}
 use Rattle.dep_docs_in.specs.declared.reference.Pointed.{Pointed}
 use Rattle.dep_docs_in.specs.declared.reference.Pointed.TheVariants.{Upload as AnUpload, Elsewhere}
-use Rattle.dep_decisions.specs.Kinds.{kind_of, is_completion, is_true}
+use Rattle.dep_decisions.specs.Kinds.{content_kind, is_completion, is_true}
 use Rattle.dep_decisions.specs.declared.operation.Operation.{Operation}
-use Rattle.dep_decisions.specs.declared.decision.Source.TheVariants.{Posted, Assembled}
+use Rattle.dep_decisions.specs.declared.decision.ContentSource.TheVariants.{Posted, Assembled}
 use Rattle.dep_decisions.specs.declared.decision.NewFile.{NewFile}
 use Rattle.dep_decisions.specs.declared.decision.Deposit.{Deposit}
 use Rattle.dep_decisions.specs.declared.decision.Deposit.TheVariants as deposit
@@ -37,23 +37,23 @@ references_by config op _ = None
 
 -- the entries that the content of a request lists, where it is a document of references
 unfoldable pub references_in : Config → Operation → Option (List Reference)
-references_in config op = references_by config op (kind_of op)
+references_in config op = references_by config op (content_kind op)
 
 -- ---- deposits
 
-abbrev pub value_of : {X : Type 0} → Field X → Option X
-value_of (Value x) = Some x
-value_of Bad = None
-value_of Absent = None
+abbrev pub field_value : {X : Type 0} → Field X → Option X
+field_value (Value x) = Some x
+field_value Bad = None
+field_value Absent = None
 
 abbrev pub behalf_of : Operation → Option (List ℕ)
-behalf_of op = value_of op.fields.on_behalf_of
+behalf_of op = field_value op.fields.on_behalf_of
 
 -- the content itself as a file
 abbrev pub posted_file : Operation → (name : List ℕ) → NewFile
 posted_file op name = record {
   name = name;
-  media = unwrap_or (value_of op.fields.content_type) default_media;
+  media = unwrap_or (field_value op.fields.content_type) default_media;
   source = Posted (digests_of op.content);
   behalf = behalf_of op;
 }
@@ -89,7 +89,7 @@ deposit_by refs op of.References =
 deposit_by refs op _ = None
 
 unfoldable pub deposit_of : Option (List Reference) → Operation → Option Deposit
-deposit_of refs op = option_and_then (deposit_by refs op) (kind_of op)
+deposit_of refs op = option_and_then (deposit_by refs op) (content_kind op)
 
 abbrev pub files_of : Deposit → Option (List NewFile)
 files_of (deposit.Files files) = Some files
@@ -136,10 +136,10 @@ decision_at refs op (Metadata n) Delete = Some (SetMetadata n finmap.empty)
 decision_at refs op (FileSet n) Put =
     option_map (λ files. SetFiles n files) (option_and_then files_of (deposit_of refs op))
 decision_at refs op (FileSet n) Delete = Some (SetFiles n [])
-decision_at refs op (File n f) Put = option_and_then (replaced_file op n f) (kind_of op)
+decision_at refs op (File n f) Put = option_and_then (replaced_file op n f) (content_kind op)
 decision_at refs op (File n f) Delete = Some (DropFile n f)
-decision_at refs op Staging Post = option_and_then opened (kind_of op)
-decision_at refs op (Upload u) Post = option_and_then (received u) (kind_of op)
+decision_at refs op Staging Post = option_and_then opened (content_kind op)
+decision_at refs op (Upload u) Post = option_and_then (received u) (content_kind op)
 decision_at refs op (Upload u) Delete = Some (DropUpload u)
 decision_at refs op _ _ = None
 

@@ -63,8 +63,8 @@ kind_by op Bad = None
 kind_by op Absent = kind_without op.target.resource op.target.method
 
 -- what the content is for, where the operation takes it so
-unfoldable pub kind_of : Operation → Option Kind
-kind_of op = kind_by op op.fields.disposition
+unfoldable pub content_kind : Operation → Option Kind
+content_kind op = kind_by op op.fields.disposition
 
 -- ---- completions
 

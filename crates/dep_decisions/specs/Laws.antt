@@ -17,7 +17,7 @@ use Rattle.dep_fields.specs.declared.kind.Kind.TheVariants.{Segment}
 use Rattle.dep_fixity.specs.Fixity.{digests_of, keeps}
 use Rattle.dep_docs_in.specs.declared.reference.Reference.{Reference}
 use Rattle.dep_docs_in.specs.declared.reference.Pointed.TheVariants.{Upload as Pointing}
-use Rattle.dep_decisions.specs.Kinds.{kind_of}
+use Rattle.dep_decisions.specs.Kinds.{content_kind}
 use Rattle.dep_decisions.specs.Decisions.{references_in}
 use Rattle.dep_decisions.specs.LookUps.{LookUps, promised_of}
 use Rattle.dep_decisions.specs.Rules.{access_refusal, content_refusal, each, has_length, refusal, unless, upload_refusal}
@@ -108,7 +108,7 @@ posted_to u = record { resource = AnUpload u; method = Post }
 pub record SendsSegment (s : State) (op : Operation) (number segment : ℕ) (upload : Upload)
     : Type 0 where
   pub target : op.target ≡ posted_to number
-  pub kind : kind_of op ≡ Some (Segment segment)
+  pub kind : content_kind op ≡ Some (Segment segment)
   pub there : map.get s.uploads number ≡ Some upload
 
 -- this holds of each request that sends a segment of an upload that is there
@@ -120,10 +120,6 @@ OfSegments Law = (config : Config) (s : State) (op : Operation) (u k : ℕ) (upl
 abbrev pub FitsUpload : Upload → (k : ℕ) → (bytes : List ℕ) → Type 0
 FitsUpload upload k bytes =
     (1 ≤ k) × (k ≤ upload.count) × (length bytes ≡ segment_length upload k)
-
--- the state with an upload at this number
-abbrev pub with_upload : State → ℕ → Upload → State
-with_upload s u upload = record s { uploads = map.insert s.uploads u upload }
 
 -- each segment that was received stands there with the same bytes
 abbrev pub HoldsSegments : (before after : Upload) → Type 0

@@ -4,12 +4,12 @@ ghost use Rattle.std.specs.Option.{option_copied};
 ghost use Rattle.dep_fixity.specs.Fixity.{digests_of};
 ghost use Rattle.dep_decisions.specs.Asked.{IsRead, deposited_in, dropped_at, filed_at, received_in, referred_at, undeposited_in};
 ghost use Rattle.dep_decisions.specs.Decisions.{assembled_file, behalf_of, decision_with, ingests, posted_file, referred_files};
-ghost use Rattle.dep_decisions.specs.Kinds.{kind_of};
+ghost use Rattle.dep_decisions.specs.Kinds.{content_kind};
 ghost use Rattle.dep_decisions.specs.Purposes.{kind_for};
 ghost use Rattle.dep_decisions.specs.declared.decision.Decision.TheVariants.{Show};
 ghost use Rattle.dep_decisions.specs.declared.decision.Deposit.TheVariants.{Files, Metadata as MetadataOf};
 
-use crate::decision::{Decision, Deposit, NewFile, Source};
+use crate::decision::{Decision, Deposit, NewFile, ContentSource};
 use crate::operation::Operation;
 use crate::purpose::{Purpose, is_completion, is_true};
 use dep_docs_in::{DEFAULT_MEDIA, Pointed, Reference};
@@ -37,7 +37,7 @@ pub fn decision_on(
     references: Option<&List<Reference>>,
     read: ReadContent,
 ) -> Result<Decision, AllocError>
-    requires purpose { option_map kind_for purpose ≡ kind_of operation.now }
+    requires purpose { option_map kind_for purpose ≡ content_kind operation.now }
     requires read { IsRead operation.now read }
     ensures { IfOk result (λ d. d ≡ decision_with (option_copied references.entry) operation.now) }
 {
@@ -58,7 +58,7 @@ fn decision_for(
     references: Option<&List<Reference>>,
     read: ReadContent,
 ) -> Result<Decision, AllocError>
-    requires purpose { Some (kind_for purpose) ≡ kind_of operation.now }
+    requires purpose { Some (kind_for purpose) ≡ content_kind operation.now }
     requires read { IsRead operation.now read }
     ensures { IfOk result (λ d. d ≡ decision_with (option_copied references.entry) operation.now) }
 {
@@ -232,7 +232,7 @@ fn posted_file(
         operation,
         name.as_str(),
         media,
-        Source::Posted(digests),
+        ContentSource::Posted(digests),
     )
 }
 
@@ -242,7 +242,7 @@ fn new_file(
     operation: &Operation<'_>,
     name: &str,
     media: &str,
-    source: Source,
+    source: ContentSource,
 ) -> Result<NewFile, AllocError>
     ensures { IfOk result (λ file. file ≡ record {
       name = name.now;
@@ -294,6 +294,6 @@ fn assembled_file(
         operation,
         reference.name.as_str(),
         reference.media.as_str(),
-        Source::Assembled(upload),
+        ContentSource::Assembled(upload),
     )
 }

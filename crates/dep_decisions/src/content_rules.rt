@@ -5,7 +5,7 @@ ghost use Rattle.std.specs.List.{before_first};
 ghost use Rattle.std.specs.Str.{str_eq_ignore_ascii_case};
 ghost use Rattle.dep_types.specs.Names.{binary};
 ghost use Rattle.dep_types.specs.declared.refusal.Refusal.TheVariants as why;
-ghost use Rattle.dep_decisions.specs.Kinds.{kind_of};
+ghost use Rattle.dep_decisions.specs.Kinds.{content_kind};
 ghost use Rattle.dep_decisions.specs.Purposes.{kind_for};
 ghost use Rattle.dep_decisions.specs.Rules.{is_json, media_name, digest_rule, digests_if_promised, encoding_rule, fields_refusal, format_rule, in_progress_rule, kind_rule, reads_in_progress, type_rule, unless, value_refusal};
 
@@ -22,7 +22,7 @@ use dep_types::{
 /// Packaging, Metadata-Format and Content-Type say of the content.
 #[tactic(auto, unfolding(crate::specs::Rules::fields_refusal))]
 pub fn fields_rule(operation: &Operation<'_>, purpose: Option<Purpose<'_>>) -> Option<Refusal>
-    requires { option_map kind_for purpose ≡ kind_of operation.now }
+    requires { option_map kind_for purpose ≡ content_kind operation.now }
     ensures { result ≡ fields_refusal operation.now }
 {
     if let Some(refusal) = encoding_rule(operation) {
@@ -67,7 +67,7 @@ fn is_identity(coding: &Octets) -> bool
 /// Rule 9: what the content is for.
 #[tactic(auto, unfolding(crate::specs::Rules::kind_rule))]
 fn kind_rule(operation: &Operation<'_>, purpose: Option<Purpose<'_>>) -> Option<Refusal>
-    requires { option_map kind_for purpose ≡ kind_of operation.now }
+    requires { option_map kind_for purpose ≡ content_kind operation.now }
     ensures { result ≡ kind_rule operation.now }
 {
     if purpose.is_some() || is_completion(operation) {
@@ -105,7 +105,7 @@ fn reads_in_progress(target: &Target) -> bool
 /// Rule 10: Packaging and Metadata-Format.
 #[tactic(auto, unfolding(crate::specs::Rules::format_rule))]
 fn format_rule(operation: &Operation<'_>, purpose: Option<Purpose<'_>>) -> Option<Refusal>
-    requires { option_map kind_for purpose ≡ kind_of operation.now }
+    requires { option_map kind_for purpose ≡ content_kind operation.now }
     ensures { result ≡ format_rule operation.now }
 {
     match purpose {
@@ -143,7 +143,7 @@ fn unless_is(field: &Field<Octets>, taken: &str, refusal: Refusal) -> Option<Ref
 /// Rule 11: Content-Type.
 #[tactic(auto, unfolding(crate::specs::Rules::type_rule))]
 fn type_rule(operation: &Operation<'_>, purpose: Option<Purpose<'_>>) -> Option<Refusal>
-    requires { option_map kind_for purpose ≡ kind_of operation.now }
+    requires { option_map kind_for purpose ≡ content_kind operation.now }
     ensures { result ≡ type_rule operation.now }
 {
     match purpose {

@@ -6,7 +6,7 @@ use dep_types::{List, Metadata, Text};
 
 /// Where the bytes of a new file come from.
 #[derive(Clone, Copy)]
-pub enum Source {
+pub enum ContentSource {
     /// They are the content of the request, which has these digests.
     Posted(Digests),
     /// They are the segments of the upload with this number, joined.
@@ -21,7 +21,7 @@ pub struct NewFile {
     /// Its media type (RFC 9110, section 8.3).
     pub media: Text,
     /// Where its bytes come from.
-    pub source: Source,
+    pub source: ContentSource,
     /// On whose behalf it is deposited.
     pub behalf: Option<Text>,
 }

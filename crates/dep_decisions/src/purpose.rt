@@ -1,6 +1,6 @@
 //! What the content of a request is for.
 ghost use Rattle.std.specs.Prelude.{◌≡◌, option_map};
-ghost use Rattle.dep_decisions.specs.Kinds.{is_absent, is_completion, is_deposit, is_true, kind_of, kind_without, may_complete, may_hold, takes_kind};
+ghost use Rattle.dep_decisions.specs.Kinds.{is_absent, is_completion, is_deposit, is_true, content_kind, kind_without, may_complete, may_hold, takes_kind};
 ghost use Rattle.dep_decisions.specs.Purposes.{kind_for};
 
 use crate::operation::Operation;
@@ -28,7 +28,7 @@ pub enum Purpose<'a> {
 /// content, and for an opening that has a content. It takes no memory.
 #[tactic(auto, unfolding(crate::specs::Kinds::kind_of))]
 pub fn content_purpose<'a>(operation: &'a Operation<'_>) -> Option<Purpose<'a>>
-    ensures { option_map kind_for result ≡ kind_of operation.now }
+    ensures { option_map kind_for result ≡ content_kind operation.now }
 {
     match &operation.fields.disposition {
         Field::Value(kind) => {

@@ -15,8 +15,8 @@ use Rattle.dep_params.specs.Grammar.{DispositionValue, names_of}
 use Rattle.dep_params.specs.Reported.{file_name_of, is_each_once, disposition_of}
 use Rattle.dep_params.proofs.Runs.{chosen}
 use Rattle.dep_params.proofs.ReportedNames.{file_name-sound}
-use Rattle.dep_docs_in.specs.Documents.{attachment_name, default_media, digest_of, document, each_read, form_name, has_type, keep, kept_texts, length_of, media_in, media_of, metadata_read, name_of, not_empty, packaging_of, reference_in, references_read, target_of, text_under, texts_in}
-use Rattle.dep_docs_in.specs.Fit.{IsKept, AreKept, IsFitMetadata, IsFitReference}
+use Rattle.dep_docs_in.specs.Documents.{attachment_name, default_media, digest_of, document, each_read, form_name, has_type, keep, kept_texts, length_of, media_in, media_in_entry, metadata_read, name_of, not_empty, packaging_of, reference_in, references_read, target_of, text_under, texts_in}
+use Rattle.dep_docs_in.specs.Fit.{IsKeptName, AreKept, IsFitMetadata, IsFitReference}
 use Rattle.dep_docs_in.specs.declared.reference.Reference.{Reference}
 
 pub bound : {X Y : Type 0} (o : Option X) (f : X → Option Y) (y : Y) → (o >>= f) ≡ Some y → (x : X) × (o ≡ Some x) × (f x ≡ Some y)
@@ -32,7 +32,7 @@ provided_by false o x h = cc h
 
 -- ---- metadata
 
-kept-put : (name : List ℕ) (texts : List (List ℕ)) (entries : List (List ℕ × List (List ℕ))) → IsKept name texts → AreKept entries
+kept-put : (name : List ℕ) (texts : List (List ℕ)) (entries : List (List ℕ × List (List ℕ))) → IsKeptName name texts → AreKept entries
     → AreKept (put (slice_cmp nat_cmp) name texts entries)
 kept-put name texts [] is all = (is, tt)
 kept-put name texts (e ∷ entries) is all = elim (slice_cmp nat_cmp name e.0) as (λ r. slice_cmp nat_cmp name e.0 ≡ r → AreKept (put (slice_cmp nat_cmp) name texts (e ∷ entries))) [
@@ -71,15 +71,15 @@ metadata-fit content kept h =
 
 -- what is found among entries that are kept
 pub kept-found : (entries : List (List ℕ × List (List ℕ))) (name : List ℕ) (texts : List (List ℕ)) → AreKept entries
-    → find (slice_cmp nat_cmp) name entries ≡ Some texts → IsKept name texts
+    → find (slice_cmp nat_cmp) name entries ≡ Some texts → IsKeptName name texts
 kept-found [] name texts all h = cc h
-kept-found (e ∷ entries) name texts all h = elim (slice_cmp nat_cmp name e.0) as (λ r. slice_cmp nat_cmp name e.0 ≡ r → IsKept name texts) [
+kept-found (e ∷ entries) name texts all h = elim (slice_cmp nat_cmp name e.0) as (λ r. slice_cmp nat_cmp name e.0 ≡ r → IsKeptName name texts) [
   | Less ↦ λ r. kept-found entries name texts all.1 (rw r at h)
   | Equal ↦ λ r.
       let here : Some e.1 ≡ Some texts = rw r at h in
       let same : e.1 ≡ texts = cc here in
       let named : e.0 ≡ name = sym (map.slice_cmp-IsAntisymmetric map.nat_cmp-IsAntisymmetric name e.0 r) in
-      subst (λ (t : List (List ℕ)). IsKept name t) same (subst (λ (n : List ℕ). IsKept n e.1) named all.0)
+      subst (λ (t : List (List ℕ)). IsKeptName name t) same (subst (λ (n : List ℕ). IsKeptName n e.1) named all.0)
   | Greater ↦ λ r. kept-found entries name texts all.1 (rw r at h)
 ] refl
 
@@ -109,8 +109,8 @@ reported-media : (o : Option Data) (media : List ℕ) → option_map_or media_in
 reported-media None media h = subst (λ (t : List ℕ). IsTrue (is_media t)) (same_some default_media media h) refl
 reported-media (Some d) media h = media_in-fit d media h
 
-media_of-fit : (d : Data) (media : List ℕ) → media_of d ≡ Some media → IsTrue (is_media media)
-unfolding media_of
+media_of-fit : (d : Data) (media : List ℕ) → media_in_entry d ≡ Some media → IsTrue (is_media media)
+unfolding media_in_entry
 media_of-fit d media h = reported-media (get (codes "contentType") d) media h
 
 reference-fit : (config : Config) (d : Data) (r : Reference) → reference_in config d ≡ Some r → IsFitReference r
@@ -118,7 +118,7 @@ unfolding reference_in
 reference-fit config d r h =
     let target = bound (target_of config d) _ r h in
     let name = bound (name_of d) _ r target.2 in
-    let media = bound (media_of d) _ r name.2 in
+    let media = bound (media_in_entry d) _ r name.2 in
     let length = bound (length_of d) _ r media.2 in
     let packaging = bound (packaging_of d) _ r length.2 in
     let digest = bound (digest_of d) _ r packaging.2 in

@@ -9,7 +9,7 @@ use Rattle.serde_json.specs.View.{view, items_view}
 use Rattle.serde_json.specs.declared.value.Value.{Value}
 use Rattle.dep_types.specs.Maps.{◌>>=◌, provided}
 use Rattle.dep_docs_in.specs.Documents.{each_read, not_empty, text_or_list, texts_in}
-use Rattle.dep_docs_in.specs.Faults.{Fails}
+use Rattle.dep_docs_in.specs.Faults.{IsUnreadable}
 use Rattle.dep_docs_in.specs.declared.fault.DocFault.{DocFault}
 use Rattle.dep_docs_in.specs.declared.fault.DocFault.TheVariants.{Malformed, Memory}
 
@@ -44,7 +44,7 @@ module _ {X : Type 0} (reads : Data → Option X) where
       ∙ ap (λ f. with_front f (each_read reads (items_view (drop (i + 1) vs)))) (sym e)
 
   pub failed : (all : Option (List X)) (vs : List Value) (i : ℕ) (v : Value) (front : List X) (e : DocFault) → all ≡ with_front front (each_read reads (items_view (drop i vs)))
-      → i < length vs → slice_index_or vs i v ≡ v → Fails e (reads (view v)) → Fails e all
+      → i < length vs → slice_index_or vs i v ≡ v → IsUnreadable e (reads (view v)) → IsUnreadable e all
   failed all vs i v front Malformed so_far lt is none =
       so_far ∙ ap (with_front front) (split vs i v lt is ∙ ap (λ o. o >>= (λ x. each_read reads (items_view (drop (i + 1) vs)) >>= (λ xs. Some (x ∷ xs)))) none)
   failed all vs i v front Memory so_far lt is none = tt

@@ -5,7 +5,7 @@ use Rattle.dep_types.specs.Maps.{◌>>=◌}
 use Rattle.dep_types.specs.Names.{is_kept_name}
 use Rattle.dep_types.specs.State.{Texts}
 use Rattle.dep_docs_in.specs.Documents.{keep, kept_texts, texts_in}
-use Rattle.dep_docs_in.specs.Faults.{Fails}
+use Rattle.dep_docs_in.specs.Faults.{IsUnreadable}
 use Rattle.dep_docs_in.specs.declared.fault.DocFault.{DocFault}
 use Rattle.dep_docs_in.specs.declared.fault.DocFault.TheVariants.{Malformed, Memory}
 
@@ -32,7 +32,7 @@ none_kept None f g e = refl
 none_kept (Some x) f g e = absurd (cc)
 
 pub member_fails : (name : List ℕ) (d : Data) (old : Texts) (rest : Members) (e : DocFault) → is_kept_name name ≡ true
-    → Fails e (option_map (λ texts. keep name texts old) (texts_in d)) → Fails e (kept_texts old (member name d rest))
+    → IsUnreadable e (option_map (λ texts. keep name texts old) (texts_in d)) → IsUnreadable e (kept_texts old (member name d rest))
 unfolding kept_texts
 member_fails name d old rest Malformed is none =
     ap (λ b. if b then texts_in d >>= (λ texts. kept_texts (keep name texts old) rest) else kept_texts old rest) is

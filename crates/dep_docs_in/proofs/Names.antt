@@ -10,7 +10,7 @@ use Rattle.dep_params.proofs.ReportedNames.{file_name-sound, file_name-complete}
 use Rattle.dep_params.specs.declared.disposition.ParamFault.{ParamFault}
 use Rattle.dep_params.specs.declared.disposition.ParamFault.TheVariants.{Malformed, Repeated, NoName, Memory}
 use Rattle.dep_docs_in.specs.Documents.{attachment_name, form_name}
-use Rattle.dep_docs_in.specs.Faults.{Fails, fault_of_disposition}
+use Rattle.dep_docs_in.specs.Faults.{IsUnreadable, fault_of_disposition}
 
 nothing : {X : Type 0} (b : Bool) (o : Option X) → o ≡ None → provided b o ≡ None
 nothing true o e = e
@@ -28,7 +28,7 @@ no_form_name : (r : DispositionValue) → ((name : List ℕ) → ¬ IsFileName r
 no_form_name r none = nothing _ _ (none_of (IsFileName r) (file_name_of r) (file_name-sound r) none)
 
 pub unnamed : (r : DispositionValue) (e : ParamFault) → (e ≡ NoName → (name : List ℕ) → ¬ IsFileName r name) → IsNameFault e
-    → Fails (fault_of_disposition e) (form_name r)
+    → IsUnreadable (fault_of_disposition e) (form_name r)
 unnamed r e none (inl is) = rw is (no_form_name r (none is))
 unnamed r e none (inr is) = rw is tt
 
@@ -57,7 +57,7 @@ name_of_none o text r e is twice =
 
 pub unread : (o : Option (List ℕ)) (text : List ℕ) (e : ParamFault) → o ≡ Some text → (e ≡ Malformed → (r : DispositionValue) → ¬ IsDisposition text r)
     → (e ≡ Repeated → (r : DispositionValue) × IsDisposition text r × ¬ HasDistinctNames r) → ¬ (e ≡ NoName)
-    → Fails (fault_of_disposition e) (o >>= disposition_of >>= attachment_name)
+    → IsUnreadable (fault_of_disposition e) (o >>= disposition_of >>= attachment_name)
 unread o text Malformed is malformed repeated never = no_name o text is (malformed refl)
 unread o text Repeated is malformed repeated never = let twice = repeated refl in name_of_none o text twice.0 is twice.1 twice.2
 unread o text NoName is malformed repeated never = absurd (never refl)

@@ -14,7 +14,7 @@ use Rattle.dep_types.specs.State.{Texts}
 use Rattle.dep_types.specs.Names.{is_kept_name}
 use Rattle.dep_types.specs.declared.config.Config.{Config}
 use Rattle.dep_docs_out.specs.Documents.{texts_data, metadata_data, metadata_document, bag_metadata_data, bag_metadata_document}
-use Rattle.dep_docs_out.specs.Json.{items, members, text}
+use Rattle.dep_docs_out.specs.Json.{items, members_from, text}
 use Rattle.dep_docs_out.specs.ReadBack.{ReadsAs, HasTexts, MetadataHasTexts}
 use Rattle.dep_docs_out.proofs.MetadataReadBack.{metadata_reads, bag_metadata_reads}
 use Rattle.dep_docs_in.specs.Documents.{each_read, has_type, metadata_read, keep, kept_texts, texts_in}
@@ -70,7 +70,7 @@ put_last (d ∷ done) e more h =
 -- ---- all names, one after another
 
 kept_more : (old : Texts) (entries : List Entry) → AreKept entries → T (is_sorted (slice_cmp nat_cmp) (finmap.entries old ++ entries))
-    → (new : Texts) × (kept_texts old (members (members_of entries)) ≡ Some new) × (finmap.entries new ≡ finmap.entries old ++ entries)
+    → (new : Texts) × (kept_texts old (members_from (members_of entries)) ≡ Some new) × (finmap.entries new ≡ finmap.entries old ++ entries)
 unfolding kept_texts
 kept_more old [] kept sorted = (old, refl, sym (append-nil (finmap.entries old)))
 kept_more old (e ∷ entries) kept sorted =
@@ -80,12 +80,12 @@ kept_more old (e ∷ entries) kept sorted =
     let whole : finmap.entries next ++ entries ≡ finmap.entries old ++ e ∷ entries = ap (λ es. es ++ entries) put_is ∙ append_assoc (finmap.entries old) (e ∷ []) entries in
     let rest = kept_more next entries kept.1 (subst (λ es. T (is_sorted (slice_cmp nat_cmp) es)) (sym whole) sorted) in
     let read = ap (λ o. option_map (λ ts. keep e.0 ts old) o) (texts_reported e.1) ∙ ap Some (keep_some e.0 e.1 old kept.0.1) in
-    (rest.0, member_kept e.0 (texts_data e.1) old next (members (members_of entries)) kept.0.0 read ∙ rest.1, rest.2 ∙ whole)
+    (rest.0, member_kept e.0 (texts_data e.1) old next (members_from (members_of entries)) kept.0.0 read ∙ rest.1, rest.2 ∙ whole)
 
 none_yet : finmap.entries (finmap.empty {X = List (List ℕ)} {R = slice_cmp nat_cmp}) ≡ []
 none_yet = nil_from_length _ (sym (finmap.len-entries finmap.empty) ∙ finmap.len-empty (slice_cmp nat_cmp) (List (List ℕ)))
 
-kept_again : (texts : Texts) → AreKept (finmap.entries texts) → kept_texts finmap.empty (members (members_of (finmap.entries texts))) ≡ Some texts
+kept_again : (texts : Texts) → AreKept (finmap.entries texts) → kept_texts finmap.empty (members_from (members_of (finmap.entries texts))) ≡ Some texts
 kept_again texts kept =
     let front : finmap.entries finmap.empty ++ finmap.entries texts ≡ finmap.entries texts = ap (λ es. es ++ finmap.entries texts) none_yet in
     let all = kept_more finmap.empty (finmap.entries texts) kept (subst (λ es. T (is_sorted (slice_cmp nat_cmp) es)) (sym front) (finmap.entries_sorted texts)) in

@@ -10,7 +10,7 @@ use Rattle.serde_json.specs.Read.{read}
 use Rattle.serde_json.specs.Find.{get, as_str, as_array, as_object, as_number, as_u64}
 use Rattle.url.specs.Parser.{parse_url}
 use Rattle.url.specs.Parts.{serialize}
-use Rattle.dep_types.specs.Maps.{◌>>=◌, provided}
+use Rattle.dep_types.specs.Maps.{◌>>=◌, provided, optional}
 use Rattle.dep_types.specs.State.{Texts}
 use Rattle.dep_types.specs.Names.{if_passes, is_kept_name, is_media}
 use Rattle.dep_types.specs.Numbers.{number_in}
@@ -83,11 +83,6 @@ metadata_read content = document content >>= metadata_of
 
 -- ---- references
 
--- where a member is there it has to be read
-abbrev pub optional : {X : Type 0} → (Data → Option X) → Option Data → Option (Option X)
-optional read None = Some None
-optional read (Some d) = option_map (λ x. Some x) (read d)
-
 -- the text that the URL standard gives for a text
 abbrev pub url_text : List ℕ → Option (List ℕ)
 url_text text = option_map (λ url. serialize url) (result_ok (parse_url None text))
@@ -97,11 +92,11 @@ abbrev pub behind : (front text : List ℕ) → Option (List ℕ)
 behind front text = if starts_with nat_eq text front then Some (drop (length front) text) else None
 
 -- the number of an upload of this server, by the text of its URL
-abbrev pub upload_number : Config → List ℕ → Option ℕ
-upload_number config url = behind config.base url >>= behind (codes "/staging/") >>= number_in
+abbrev pub upload_in_url : Config → List ℕ → Option ℕ
+upload_in_url config url = behind config.base url >>= behind (codes "/staging/") >>= number_in
 
 abbrev pub pointed_by : Config → List ℕ → Pointed
-pointed_by config url = option_map_or (λ n. Upload n) (upload_number config url) Elsewhere
+pointed_by config url = option_map_or (λ n. Upload n) (upload_in_url config url) Elsewhere
 
 unfoldable pub target_of : Config → Data → Option Pointed
 target_of config d = option_map (pointed_by config) (text_under (codes "@id") d >>= url_text)
@@ -124,8 +119,8 @@ media_in d = as_str d >>= if_passes is_media
 abbrev pub default_media : List ℕ
 default_media = codes "application/octet-stream"
 
-unfoldable pub media_of : Data → Option (List ℕ)
-media_of d = option_map_or media_in (get (codes "contentType") d) (Some default_media)
+unfoldable pub media_in_entry : Data → Option (List ℕ)
+media_in_entry d = option_map_or media_in (get (codes "contentType") d) (Some default_media)
 
 unfoldable pub length_of : Data → Option (Option ℕ)
 length_of d = optional (λ n. as_number n >>= as_u64) (get (codes "contentLength") d)
@@ -142,7 +137,7 @@ unfoldable pub reference_in : Config → Data → Option Reference
 reference_in config d = do
   target ← target_of config d
   name ← name_of d
-  media ← media_of d
+  media ← media_in_entry d
   length ← length_of d
   packaging ← packaging_of d
   digest ← digest_of d

@@ -3,7 +3,7 @@ ghost use Rattle.std.specs.Prelude.{◌≡◌, option_map};
 ghost use Rattle.serde_json.specs.Find.{as_str};
 ghost use Rattle.serde_json.specs.View.{items_view, view};
 ghost use Rattle.dep_docs_in.specs.Documents.{document, has_type, items_under, text_under};
-ghost use Rattle.dep_docs_in.specs.Faults.{Gives, GivesBy};
+ghost use Rattle.dep_docs_in.specs.Faults.{GivesRead, GivesBy};
 ghost use Rattle.std.specs.Option.{option_copied};
 
 use crate::fault::DocFault;
@@ -50,7 +50,7 @@ pub(crate) fn items_of<'a>(document: &'a Value, name: &str) -> Option<&'a Vec<Va
 
 /// A copy of the text that a value is.
 pub(crate) fn text_in(alloc: Global, value: &Value) -> Result<Text, DocFault>
-    ensures { Gives result (as_str (view value.now)) }
+    ensures { GivesRead result (as_str (view value.now)) }
 {
     match value.as_str() {
         Some(text) => Ok(Text::copied(alloc, text)?),

@@ -1,6 +1,6 @@
 //! Why a document is refused.
 ghost use Rattle.std.specs.Prelude.{◌≡◌};
-ghost use Rattle.dep_docs_in.specs.Faults.{fault_number};
+ghost use Rattle.dep_docs_in.specs.Faults.{document_fault_number};
 
 use dep_params::ParamFault;
 use std::alloc::{AllocError, AllocFailed};
@@ -19,7 +19,7 @@ pub enum DocFault {
 impl DocFault {
     /// The number of the fault, 1 or 2.
     pub fn number(self) -> u8
-        ensures { result ≡ fault_number self }
+        ensures { result ≡ document_fault_number self }
     {
         match self {
             DocFault::Malformed => 1,

@@ -4,7 +4,7 @@ ghost use Rattle.std.specs.FinMap as map;
 ghost use Rattle.serde_json.specs.Find.{as_str};
 ghost use Rattle.serde_json.specs.View.{view, items_view, members_view};
 ghost use Rattle.dep_docs_in.specs.Documents.{each_read, keep, kept_texts, metadata_of, metadata_read, texts_in};
-ghost use Rattle.dep_docs_in.specs.Faults.{Gives, GivesBy};
+ghost use Rattle.dep_docs_in.specs.Faults.{GivesRead, GivesBy};
 
 use crate::document::{document, has_type, text_in};
 use crate::fault::DocFault;
@@ -18,14 +18,14 @@ use std::slice;
 /// empty. Other members may be anything, and are not kept. It fails with `Malformed` for any other content, and with
 /// `Memory` where memory was refused.
 pub fn read_metadata(alloc: Global, content: &[u8]) -> Result<Metadata, DocFault>
-    ensures { Gives result (metadata_read content.now) }
+    ensures { GivesRead result (metadata_read content.now) }
 {
     let document = document(alloc, content)?;
     metadata_of(alloc, &document)
 }
 
 fn metadata_of(alloc: Global, document: &Value) -> Result<Metadata, DocFault>
-    ensures { Gives result (metadata_of (view document.now)) }
+    ensures { GivesRead result (metadata_of (view document.now)) }
 {
     match document.as_object() {
         Some(members) if has_type(document, "Metadata") => kept(alloc, members),
@@ -35,7 +35,7 @@ fn metadata_of(alloc: Global, document: &Value) -> Result<Metadata, DocFault>
 
 // What the members keep.
 fn kept(alloc: Global, members: &Map<String, Value>) -> Result<Metadata, DocFault>
-    ensures { Gives result (kept_texts map.empty (members_view members.now.entries)) }
+    ensures { GivesRead result (kept_texts map.empty (members_view members.now.entries)) }
 {
     let mut metadata = Metadata::new(alloc);
     for (name, value) in members {
@@ -61,7 +61,7 @@ fn keep(alloc: Global, metadata: &mut Metadata, name: &str, value: &Value) -> Re
 
 // A text, or a list of texts.
 fn texts(alloc: Global, value: &Value) -> Result<List<Text>, DocFault>
-    ensures { Gives result (texts_in (view value.now)) }
+    ensures { GivesRead result (texts_in (view value.now)) }
 {
     match value.as_array() {
         Some(values) => listed(alloc, values),
@@ -70,7 +70,7 @@ fn texts(alloc: Global, value: &Value) -> Result<List<Text>, DocFault>
 }
 
 fn listed(alloc: Global, values: &[Value]) -> Result<List<Text>, DocFault>
-    ensures { Gives result (each_read as_str (items_view values.now)) }
+    ensures { GivesRead result (each_read as_str (items_view values.now)) }
 {
     let mut texts = Vec::new(alloc);
     for value in values {

@@ -4,8 +4,8 @@ ghost use Rattle.std.specs.Option.{option_copied};
 ghost use Rattle.serde_json.specs.Find.{as_str};
 ghost use Rattle.serde_json.specs.View.{view, items_view};
 ghost use Rattle.dep_fixity.specs.Fixity.{digest_field};
-ghost use Rattle.dep_docs_in.specs.Documents.{behind, digest_of, each_read, form_name, length_of, media_in, media_of, name_of, packaging_of, pointed_by, reference_in, references_of, references_read, target_of, upload_number};
-ghost use Rattle.dep_docs_in.specs.Faults.{Gives};
+ghost use Rattle.dep_docs_in.specs.Documents.{behind, digest_of, each_read, form_name, length_of, media_in, media_in_entry, name_of, packaging_of, pointed_by, reference_in, references_of, references_read, target_of, upload_in_url};
+ghost use Rattle.dep_docs_in.specs.Faults.{GivesRead};
 
 use crate::document::{document, has_type, items_of, text_in, text_of};
 use crate::fault::DocFault;
@@ -29,7 +29,7 @@ pub fn read_references(
     config: &Config,
     content: &[u8],
 ) -> Result<List<Reference>, DocFault>
-    ensures { Gives result (references_read config.now content.now) }
+    ensures { GivesRead result (references_read config.now content.now) }
 {
     let document = document(alloc, content)?;
     references_of(alloc, config, &document)
@@ -40,7 +40,7 @@ fn references_of(
     config: &Config,
     document: &Value,
 ) -> Result<List<Reference>, DocFault>
-    ensures { Gives result (references_of config.now (view document.now)) }
+    ensures { GivesRead result (references_of config.now (view document.now)) }
 {
     if !has_type(document, "ByReference") {
         return Err(DocFault::Malformed);
@@ -56,7 +56,7 @@ fn entries_in(
     config: &Config,
     entries: &[Value],
 ) -> Result<List<Reference>, DocFault>
-    ensures { Gives result (each_read (reference_in config.now) (items_view entries.now)) }
+    ensures { GivesRead result (each_read (reference_in config.now) (items_view entries.now)) }
 {
     let mut references = Vec::new(alloc);
     for entry in entries {
@@ -67,7 +67,7 @@ fn entries_in(
 
 #[tactic(auto, unfolding(crate::specs::Documents::reference_in))]
 fn reference_in(alloc: Global, config: &Config, entry: &Value) -> Result<Reference, DocFault>
-    ensures { Gives result (reference_in config.now (view entry.now)) }
+    ensures { GivesRead result (reference_in config.now (view entry.now)) }
 {
     let target = target_of(alloc, config, entry)?;
     let name = name_of(alloc, entry)?;
@@ -88,7 +88,7 @@ fn reference_in(alloc: Global, config: &Config, entry: &Value) -> Result<Referen
 // What the URL of an entry points at.
 #[tactic(auto, unfolding(crate::specs::Documents::target_of))]
 fn target_of(alloc: Global, config: &Config, entry: &Value) -> Result<Pointed, DocFault>
-    ensures { Gives result (target_of config.now (view entry.now)) }
+    ensures { GivesRead result (target_of config.now (view entry.now)) }
 {
     let Some(text) = text_of(entry, "@id") else {
         return Err(DocFault::Malformed);
@@ -112,7 +112,7 @@ fn pointed_by(config: &Config, url: &[u8]) -> Pointed
 }
 
 fn upload_number(config: &Config, url: &[u8]) -> Option<u64>
-    ensures { result ≡ upload_number config.now url.now }
+    ensures { result ≡ upload_in_url config.now url.now }
 {
     let path = behind(config.base.as_str().as_bytes(), url)?;
     positive_decimal(behind(b"/staging/", path)?, GREATEST_NUMBER)
@@ -132,7 +132,7 @@ fn behind<'a>(front: &[u8], text: &'a [u8]) -> Option<&'a [u8]>
 // The file name that the disposition of an entry gives.
 #[tactic(auto, unfolding(crate::specs::Documents::name_of))]
 fn name_of(alloc: Global, entry: &Value) -> Result<Text, DocFault>
-    ensures { Gives result (name_of (view entry.now)) }
+    ensures { GivesRead result (name_of (view entry.now)) }
 {
     let Some(text) = text_of(entry, "contentDisposition") else {
         return Err(DocFault::Malformed);
@@ -143,7 +143,7 @@ fn name_of(alloc: Global, entry: &Value) -> Result<Text, DocFault>
 
 // The file name that an attachment gives.
 fn attachment_name(alloc: Global, disposition: &Disposition) -> Result<Text, DocFault>
-    ensures { Gives result (form_name disposition.now) }
+    ensures { GivesRead result (form_name disposition.now) }
 {
     if disposition.form() != b"attachment".as_slice() {
         return Err(DocFault::Malformed);
@@ -154,7 +154,7 @@ fn attachment_name(alloc: Global, disposition: &Disposition) -> Result<Text, Doc
 // The media type of an entry, or the one of unknown bytes.
 #[tactic(auto, unfolding(crate::specs::Documents::media_of))]
 fn media_of(alloc: Global, entry: &Value) -> Result<Text, DocFault>
-    ensures { Gives result (media_of (view entry.now)) }
+    ensures { GivesRead result (media_in_entry (view entry.now)) }
 {
     match entry.get("contentType") {
         Some(value) => media_in(alloc, value),
@@ -163,7 +163,7 @@ fn media_of(alloc: Global, entry: &Value) -> Result<Text, DocFault>
 }
 
 fn media_in(alloc: Global, value: &Value) -> Result<Text, DocFault>
-    ensures { Gives result (media_in (view value.now)) }
+    ensures { GivesRead result (media_in (view value.now)) }
 {
     match value.as_str() {
         Some(text) if is_media(text.as_bytes()) => Ok(Text::copied(alloc, text)?),
@@ -174,7 +174,7 @@ fn media_in(alloc: Global, value: &Value) -> Result<Text, DocFault>
 // How many bytes an entry is said to have.
 #[tactic(auto, unfolding(crate::specs::Documents::length_of))]
 fn length_of(entry: &Value) -> Result<Option<u64>, DocFault>
-    ensures { Gives result (length_of (view entry.now)) }
+    ensures { GivesRead result (length_of (view entry.now)) }
 {
     let Some(value) = entry.get("contentLength") else {
         return Ok(None);
@@ -188,7 +188,7 @@ fn length_of(entry: &Value) -> Result<Option<u64>, DocFault>
 // The packaging that an entry gives.
 #[tactic(auto, unfolding(crate::specs::Documents::packaging_of))]
 fn packaging_of(alloc: Global, entry: &Value) -> Result<Option<Text>, DocFault>
-    ensures { Gives result (packaging_of (view entry.now)) }
+    ensures { GivesRead result (packaging_of (view entry.now)) }
 {
     match entry.get("packaging") {
         Some(value) => Ok(Some(text_in(alloc, value)?)),
@@ -199,7 +199,7 @@ fn packaging_of(alloc: Global, entry: &Value) -> Result<Option<Text>, DocFault>
 // The digests that are promised of an entry.
 #[tactic(auto, unfolding(crate::specs::Documents::digest_of))]
 fn digest_of(entry: &Value) -> Result<DigestList, DocFault>
-    ensures { Gives result (digest_of (view entry.now)) }
+    ensures { GivesRead result (digest_of (view entry.now)) }
 {
     match entry.get("digest") {
         Some(value) => digest_in(value),
@@ -208,7 +208,7 @@ fn digest_of(entry: &Value) -> Result<DigestList, DocFault>
 }
 
 fn digest_in(value: &Value) -> Result<DigestList, DocFault>
-    ensures { Gives result (option_and_then digest_field (as_str (view value.now))) }
+    ensures { GivesRead result (option_and_then digest_field (as_str (view value.now))) }
 {
     let Some(text) = value.as_str() else {
         return Err(DocFault::Malformed);

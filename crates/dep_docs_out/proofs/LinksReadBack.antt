@@ -9,7 +9,7 @@ use Rattle.dep_moment.proofs.Ascii.{rfc3339-ascii}
 use Rattle.dep_types.specs.declared.config.Config.{Config}
 use Rattle.dep_types.specs.declared.rows.FileRow.{FileRow}
 use Rattle.dep_docs_out.specs.Documents.{file_url, link_data, deposit_members, behalf_members, kept_members, relations_data, deposit_relation}
-use Rattle.dep_docs_out.specs.Json.{document, items, members, whole_number}
+use Rattle.dep_docs_out.specs.Json.{sorted_object, items, members_from, whole_number}
 use Rattle.dep_docs_out.specs.ReadBack.{FileHasTexts}
 use Rattle.dep_docs_out.proofs.ReadingBack.{is_plain, are_plain}
 use Rattle.dep_docs_out.proofs.Utf8.{HasUtf8, ItemsHaveUtf8, MembersHaveUtf8, IsText, decimal_utf8, is_text}
@@ -19,7 +19,7 @@ use Rattle.dep_docs_out.proofs.PartsReadBack.{file_url_utf8}
 
 link_plain : (config : Config) (n : ℕ) (file : FileRow) → is_plain (link_data config n file) 2 ≡ true
 unfolding link_data deposit_members kept_members relations_data
-link_plain config n file = elim file.behalf as (λ b. is_plain (document (deposit_members config (file_url config n file.file) file ++ behalf_members b ++ kept_members file)) 2 ≡ true) [
+link_plain config n file = elim file.behalf as (λ b. is_plain (sorted_object (deposit_members config (file_url config n file.file) file ++ behalf_members b ++ kept_members file)) 2 ≡ true) [
   | None ↦ refl
   | Some name ↦ refl
 ]
@@ -40,8 +40,8 @@ link_utf8 config n file base depositor texts =
     let by = is_text config.depositor depositor in
     let on = is_text _ (IsUtf8-from_ascii _ (rfc3339-ascii (min file.deposited greatest_moment) (omega arith))) in
     let tag = is_text _ (decimal_utf8 file.tag) in
-    let kept : MembersHaveUtf8 (members (kept_members file)) = (tt, tag, (tt, tt, (tt, (relation_text file.by_reference, (tt, tt)), (tt, tt, tt)))) in
-    elim file.behalf as (λ b. IfSome b (λ name. IsUtf8 name) → HasUtf8 (document (deposit_members config (file_url config n file.file) file ++ behalf_members b ++ kept_members file))) [
+    let kept : MembersHaveUtf8 (members_from (kept_members file)) = (tt, tag, (tt, tt, (tt, (relation_text file.by_reference, (tt, tt)), (tt, tt, tt)))) in
+    elim file.behalf as (λ b. IfSome b (λ name. IsUtf8 name) → HasUtf8 (sorted_object (deposit_members config (file_url config n file.file) file ++ behalf_members b ++ kept_members file))) [
       | None ↦ λ h. (tt, place, (tt, media, (tt, by, (tt, on, kept))))
       | Some name ↦ λ h. (tt, place, (tt, media, (tt, by, (tt, on, (tt, is_text name h, kept)))))
     ] texts.behalf

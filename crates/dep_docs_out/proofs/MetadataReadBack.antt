@@ -11,7 +11,7 @@ use Rattle.dep_types.specs.State.{Texts}
 use Rattle.dep_types.specs.Names.{is_kept_name}
 use Rattle.dep_types.specs.declared.config.Config.{Config}
 use Rattle.dep_docs_out.specs.Documents.{texts_data, metadata_url, metadata_data, metadata_document, bag_metadata_data, bag_metadata_document}
-use Rattle.dep_docs_out.specs.Json.{items, members, text}
+use Rattle.dep_docs_out.specs.Json.{items, members_from, text}
 use Rattle.dep_docs_out.specs.ReadBack.{ReadsAs, HasTexts, HasKeptNames, EntryHasTexts, MetadataHasTexts}
 use Rattle.dep_docs_out.proofs.ReadingBack.{is_plain, are_plain, members_are_plain, is_below}
 use Rattle.dep_docs_out.proofs.Utf8.{HasUtf8, ItemsHaveUtf8, MembersHaveUtf8, is_text}
@@ -53,17 +53,17 @@ both : (a b : Bool) → T (a && b) → T a × T b
 both true b h = (tt, h)
 both false b h = absurd h
 
-below_first : (k : List ℕ) (entries : List Entry) → T (below_all (slice_cmp nat_cmp) k entries) → is_below k (members (members_of entries)) ≡ true
+below_first : (k : List ℕ) (entries : List Entry) → T (below_all (slice_cmp nat_cmp) k entries) → is_below k (members_from (members_of entries)) ≡ true
 below_first k [] h = refl
 below_first k (e ∷ entries) h = holds _ (both (is_lt (slice_cmp nat_cmp k e.0)) (below_all (slice_cmp nat_cmp) k entries) h).0
 
-entries_plain : (entries : List Entry) → T (is_sorted (slice_cmp nat_cmp) entries) → members_are_plain (members (members_of entries)) 1 ≡ true
+entries_plain : (entries : List Entry) → T (is_sorted (slice_cmp nat_cmp) entries) → members_are_plain (members_from (members_of entries)) 1 ≡ true
 entries_plain [] h = refl
 entries_plain (e ∷ entries) h =
     let p = both (below_all (slice_cmp nat_cmp) e.0 entries) (is_sorted (slice_cmp nat_cmp) entries) h in
     and_from _ _ (and_from _ _ (texts_plain e.1) (below_first e.0 entries p.0)) (entries_plain entries p.1)
 
-entries_utf8 : (entries : List Entry) → AllByRecursion EntryHasTexts entries → MembersHaveUtf8 (members (members_of entries))
+entries_utf8 : (entries : List Entry) → AllByRecursion EntryHasTexts entries → MembersHaveUtf8 (members_from (members_of entries))
 entries_utf8 [] h = tt
 entries_utf8 (e ∷ entries) h = (is_text e.0 h.0.name, texts_utf8 e.1 h.0.texts, entries_utf8 entries h.1)
 
@@ -77,7 +77,7 @@ behind_type (x ∷ xs) h = elim (cases_eq x 100) [
   | inr other ↦ absurd (begins x xs h other)
 ]
 
-type_below : (entries : List Entry) → AllByRecursion (λ e. IsTrue (is_kept_name e.0)) entries → is_below (codes "@type") (members (members_of entries)) ≡ true
+type_below : (entries : List Entry) → AllByRecursion (λ e. IsTrue (is_kept_name e.0)) entries → is_below (codes "@type") (members_from (members_of entries)) ≡ true
 type_below [] h = refl
 type_below (e ∷ entries) h = behind_type e.0 h.0
 

@@ -9,7 +9,7 @@ use Rattle.dep_types.specs.declared.config.Config.{Config}
 use Rattle.dep_types.specs.declared.rows.FileRow.{FileRow}
 use Rattle.dep_types.specs.declared.rows.ObjectView.{ObjectView}
 use Rattle.dep_docs_out.specs.Documents.{file_url, status_data, status_document, object_members, links_data, state_members, actions_data, part_data, states_data, link_data, deposit_members, behalf_members, kept_members, relations_data}
-use Rattle.dep_docs_out.specs.Json.{document, items}
+use Rattle.dep_docs_out.specs.Json.{sorted_object, items}
 use Rattle.dep_docs_out.specs.ReadBack.{text_at, ReportsFile, ReportsFiles, ReportsObject}
 use Rattle.dep_docs_out.proofs.ReadingBack.{is_plain, read_back}
 use Rattle.dep_docs_out.proofs.LinksReadBack.{links_plain}
@@ -19,7 +19,7 @@ unfolding status_data object_members links_data state_members actions_data part_
 status_plain config view = rw (links_plain config view.object.object view.files) refl
 
 abbrev link_of : Config → ℕ → FileRow → Option (List ℕ) → Data
-link_of config n file behalf = document (deposit_members config (file_url config n file.file) file ++ behalf_members behalf ++ kept_members file)
+link_of config n file behalf = sorted_object (deposit_members config (file_url config n file.file) file ++ behalf_members behalf ++ kept_members file)
 
 link_reports : (config : Config) (n : ℕ) (file : FileRow) → ReportsFile config n file (link_data config n file)
 unfolding link_data deposit_members kept_members relations_data serde_json_on_literals

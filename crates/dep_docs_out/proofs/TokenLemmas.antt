@@ -6,7 +6,7 @@ use Rattle.json.specs.Tree.{items_tokens, members_tokens}
 use Rattle.serde_json.specs.Data.{Data}
 use Rattle.serde_json.specs.Written.{compact_text, items_outline, members_outline}
 use Rattle.serde_json.proofs.Texts.{print-outline}
-use Rattle.dep_docs_out.specs.Json.{Draft, Adds, AddsItems, AddsMembers, nothing, document, list, items, members, value_tokens, member_tokens, item_tokens}
+use Rattle.dep_docs_out.specs.Json.{Draft, Adds, AddsItems, AddsMembers, nothing, sorted_object, list, items, members_from, value_tokens, member_tokens, item_tokens}
 
 infixl 10 ◌⨾◌
 member_tokens-append : (a b : List (List ℕ × Data)) → member_tokens (a ++ b) ≡ member_tokens a ++ member_tokens b
@@ -18,7 +18,7 @@ item_tokens-append : (a b : List Data) → item_tokens (a ++ b) ≡ item_tokens 
 item_tokens-append [] b = refl
 item_tokens-append (d ∷ a) b = ap (λ ts. value_tokens d ++ ts) (item_tokens-append a b) ∙ sym (append_assoc (value_tokens d) (item_tokens a) (item_tokens b))
 
-members_closed : (ms : List (List ℕ × Data)) → members_tokens (members_outline (members ms)) ≡ member_tokens ms ++ Token.end_object ∷ []
+members_closed : (ms : List (List ℕ × Data)) → members_tokens (members_outline (members_from ms)) ≡ member_tokens ms ++ Token.end_object ∷ []
 members_closed [] = refl
 members_closed (m ∷ ms) =
     ap (λ ts. Token.key m.0 ∷ ts) (ap (λ ts. value_tokens m.1 ++ ts) (members_closed ms) ∙ sym (append_assoc (value_tokens m.1) (member_tokens ms) (Token.end_object ∷ [])))
@@ -55,7 +55,7 @@ more_items {old} {between} {new} {a} {b} g h = record { is = reported_as (sym (i
 
 -- an object, between its braces
 object_between : {old opened between new : Draft} {ms : List (List ℕ × Data)}
-    → Adds old opened (Token.begin_object ∷ []) → AddsMembers opened between ms → Adds between new (Token.end_object ∷ []) → Adds old new (value_tokens (document ms))
+    → Adds old opened (Token.begin_object ∷ []) → AddsMembers opened between ms → Adds between new (Token.end_object ∷ []) → Adds old new (value_tokens (sorted_object ms))
 object_between {old} {opened} {between} {new} {ms} b m e =
     let all : Adds old new (Token.begin_object ∷ (member_tokens ms ++ Token.end_object ∷ [])) = then (then b m.is) e in
     reported_as (ap (λ ts. Token.begin_object ∷ ts) (sym (members_closed ms))) all
@@ -74,7 +74,7 @@ named {old} {opened} {new} {name} {d} k v =
 
 -- a member that is an object
 pub object_member : {old named_at opened between new : Draft} {name : List ℕ} {ms : List (List ℕ × Data)} → Adds old named_at (Token.key name ∷ [])
-    → Adds named_at opened (Token.begin_object ∷ []) → AddsMembers opened between ms → Adds between new (Token.end_object ∷ []) → AddsMembers old new ((name, document ms) ∷ [])
+    → Adds named_at opened (Token.begin_object ∷ []) → AddsMembers opened between ms → Adds between new (Token.end_object ∷ []) → AddsMembers old new ((name, sorted_object ms) ∷ [])
 object_member k b m e = named k (object_between b m e)
 
 -- a member that is a list
@@ -84,14 +84,14 @@ list_member k b m e = named k (list_between b m e)
 
 -- an item that is an object
 pub object_item : {old opened between new : Draft} {ms : List (List ℕ × Data)}
-    → Adds old opened (Token.begin_object ∷ []) → AddsMembers opened between ms → Adds between new (Token.end_object ∷ []) → AddsItems old new (document ms ∷ [])
+    → Adds old opened (Token.begin_object ∷ []) → AddsMembers opened between ms → Adds between new (Token.end_object ∷ []) → AddsItems old new (sorted_object ms ∷ [])
 object_item {old} {opened} {between} {new} {ms} b m e =
-    record { is = reported_as (sym (append-nil (value_tokens (document ms)))) (object_between b m e) }
+    record { is = reported_as (sym (append-nil (value_tokens (sorted_object ms)))) (object_between b m e) }
 
 -- the text of a whole document, of which nothing has failed
 pub whole_text : {opened between : Draft} {ms : List (List ℕ × Data)}
-    → Adds nothing opened (Token.begin_object ∷ []) → AddsMembers opened between ms → between.has_failed ≡ false → print (between.tokens ++ Token.end_object ∷ []) ≡ compact_text (document ms)
+    → Adds nothing opened (Token.begin_object ∷ []) → AddsMembers opened between ms → between.has_failed ≡ false → print (between.tokens ++ Token.end_object ∷ []) ≡ compact_text (sorted_object ms)
 whole_text {opened} {between} {ms} b m fine =
     let closed : Draft = record { has_failed = false; tokens = between.tokens ++ Token.end_object ∷ [] } in
     let end : Adds between closed (Token.end_object ∷ []) = record { is = λ _. (fine, refl) } in
-    ap print ((object_between b m end).is refl).1 ∙ print-outline (document ms)
+    ap print ((object_between b m end).is refl).1 ∙ print-outline (sorted_object ms)

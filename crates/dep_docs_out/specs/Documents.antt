@@ -15,7 +15,7 @@ use Rattle.dep_types.specs.State.{Texts}
 use Rattle.dep_types.specs.Names.{binary, metadata_format}
 use Rattle.dep_moment.specs.Civil.{rfc3339_text}
 use Rattle.dep_types.specs.Limits.{greatest_moment}
-use Rattle.dep_docs_out.specs.Json.{text, whole_number, list, text_list, number_list, only, document}
+use Rattle.dep_docs_out.specs.Json.{text, whole_number, list, text_list, number_list, only, sorted_object}
 
 -- what the names in a document mean (JSON-LD 1.1, section 3.1)
 abbrev pub context : List ℕ × Data
@@ -91,7 +91,7 @@ service_members config root staging =
 -- what the server offers, and its limits
 unfoldable pub service_data : Config → Data
 service_data config =
-    document (service_members config (url config (codes "/service")) (url config (codes "/staging")))
+    sorted_object (service_members config (url config (codes "/service")) (url config (codes "/staging")))
 
 -- the text in the log of an error document
 abbrev pub log_of : Refusal → List ℕ
@@ -109,11 +109,11 @@ error_members refusal log clock =
 
 -- why a request was refused, at this second
 unfoldable pub error_data : Refusal → (clock : ℕ) → Data
-error_data refusal clock = document (error_members refusal (log_of refusal) clock)
+error_data refusal clock = sorted_object (error_members refusal (log_of refusal) clock)
 
 -- what may be done with an object
 unfoldable pub actions_data : Data
-actions_data = document
+actions_data = sorted_object
     ((codes "appendFiles", boolean true)
     ∷ (codes "appendMetadata", boolean true)
     ∷ (codes "deleteFiles", boolean true)
@@ -127,7 +127,7 @@ actions_data = document
 
 -- a part of an object: where it stands, and its entity tag
 unfoldable pub part_data : (url : List ℕ) → (tag : ℕ) → Data
-part_data url tag = document ((codes "@id", text url) ∷ (codes "eTag", text (decimal tag)) ∷ [])
+part_data url tag = sorted_object ((codes "@id", text url) ∷ (codes "eTag", text (decimal tag)) ∷ [])
 
 -- where a file stands, and how it came
 unfoldable pub deposit_members : Config → (place : List ℕ) → FileRow → List (List ℕ × Data)
@@ -168,7 +168,7 @@ kept_members file =
 -- a file of the object of this number
 unfoldable pub link_data : Config → (n : ℕ) → FileRow → Data
 link_data config n file =
-    document (deposit_members config (file_url config n file.file) file
+    sorted_object (deposit_members config (file_url config n file.file) file
     ++ behalf_members file.behalf ++ kept_members file)
 
 -- whether the deposit of an object is complete
@@ -179,7 +179,7 @@ state_id ingested =
 
 -- the same as a list of one state
 unfoldable pub states_data : (ingested : Bool) → Data
-states_data ingested = list (document ((codes "@id", text (state_id ingested)) ∷ []) ∷ [])
+states_data ingested = list (sorted_object ((codes "@id", text (state_id ingested)) ∷ []) ∷ [])
 
 -- an object: where it stands, what may be done with it, its tags
 unfoldable pub object_members : Config → ObjectRow → List (List ℕ × Data)
@@ -207,7 +207,7 @@ links_data config view = list (map (link_data config view.object.object) view.fi
 -- an object, with a link for each of its files
 unfoldable pub status_data : Config → ObjectView → Data
 status_data config view =
-    document (object_members config view.object
+    sorted_object (object_members config view.object
     ++ (codes "links", links_data config view) ∷ state_members config view.object)
 
 -- a list of one text is written as the text
@@ -233,11 +233,11 @@ unplaced_metadata texts = context ∷ (codes "@type", text (codes "Metadata")) �
 
 -- the metadata of the object of this number
 unfoldable pub metadata_data : Config → (n : ℕ) → Texts → Data
-metadata_data config n texts = document (placed_metadata (metadata_url config n) texts)
+metadata_data config n texts = sorted_object (placed_metadata (metadata_url config n) texts)
 
 -- the same in a bag, where it has no URL
 unfoldable pub bag_metadata_data : Texts → Data
-bag_metadata_data texts = document (unplaced_metadata texts)
+bag_metadata_data texts = sorted_object (unplaced_metadata texts)
 
 -- the segments of an upload that are still to come, where these were received
 abbrev pub expecting : (count : ℕ) (received : List ℕ) → List ℕ
@@ -246,7 +246,7 @@ expecting count received =
 
 -- which segments an upload waits for, and which it has
 unfoldable pub segments_data : UploadRow → (received : List ℕ) → Data
-segments_data row received = document
+segments_data row received = sorted_object
     ((codes "expecting", number_list (expecting row.count received))
     ∷ (codes "received", number_list received)
     ∷ (codes "segment_size", whole_number row.segment_size)
@@ -266,7 +266,7 @@ upload_members place row received =
 -- an upload of which these segments were received
 unfoldable pub upload_data : Config → UploadRow → (received : List ℕ) → Data
 upload_data config row received =
-    document (upload_members (upload_url config row.upload) row received)
+    sorted_object (upload_members (upload_url config row.upload) row received)
 
 -- the service document
 abbrev pub service_document : Config → List ℕ

@@ -30,13 +30,13 @@ number_list ns = list (map whole_number ns)
 abbrev pub only : List ℕ → Data
 only s = list (text s ∷ [])
 
-abbrev pub members : List (List ℕ × Data) → Members
-members [] = no_members
-members (m ∷ ms) = member m.0 m.1 (members ms)
+abbrev pub members_from : List (List ℕ × Data) → Members
+members_from [] = no_members
+members_from (m ∷ ms) = member m.0 m.1 (members_from ms)
 
 -- an object with these members, which stand in the order of their names' bytes
-abbrev pub document : List (List ℕ × Data) → Data
-document ms = object (members ms)
+abbrev pub sorted_object : List (List ℕ × Data) → Data
+sorted_object ms = object (members_from ms)
 
 -- the tokens of a value
 abbrev pub value_tokens : Data → List Token

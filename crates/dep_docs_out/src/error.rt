@@ -1,5 +1,5 @@
 //! The error document.
-ghost use Rattle.dep_docs_out.specs.Made.{Makes, MakesText};
+ghost use Rattle.dep_docs_out.specs.Made.{MakesItems, MakesText};
 ghost use Rattle.dep_docs_out.specs.Documents.{error_document, log_of};
 
 use crate::document::{CONTEXT, Document};
@@ -10,7 +10,7 @@ use std::alloc::{AllocError, Global};
 
 /// Returns the error document of SWORD 3.0: why a request was refused, at the moment of the server's clock.
 pub fn error_doc(alloc: Global, refusal: Refusal, clock: Moment) -> Result<Vec<u8>, AllocError>
-    ensures { Makes result (error_document refusal clock) }
+    ensures { MakesItems result (error_document refusal clock) }
 {
     let mut document = Document::begun(alloc)?;
     document.text("@context", CONTEXT);

@@ -1,5 +1,5 @@
 //! The metadata document.
-ghost use Rattle.dep_docs_out.specs.Made.{Makes};
+ghost use Rattle.dep_docs_out.specs.Made.{MakesItems};
 ghost use Rattle.dep_docs_out.specs.Documents.{bag_metadata_document, metadata_document, texts_data, texts_members};
 ghost use Rattle.dep_docs_out.specs.Json.{AddsMember, AddsMembers, text_list};
 
@@ -17,7 +17,7 @@ pub fn metadata_doc(
     object: u64,
     metadata: &Metadata,
 ) -> Result<Vec<u8>, AllocError>
-    ensures { Makes result (metadata_document config.now object metadata.now) }
+    ensures { MakesItems result (metadata_document config.now object metadata.now) }
 {
     let mut document = Document::begun(alloc)?;
     document.text("@context", CONTEXT);
@@ -29,7 +29,7 @@ pub fn metadata_doc(
 
 /// Returns the metadata document of an object as it stands in the object's bag, where it has no URL.
 pub fn bag_metadata_doc(alloc: Global, metadata: &Metadata) -> Result<Vec<u8>, AllocError>
-    ensures { Makes result (bag_metadata_document metadata.now) }
+    ensures { MakesItems result (bag_metadata_document metadata.now) }
 {
     let mut document = Document::begun(alloc)?;
     document.text("@context", CONTEXT);

@@ -1,6 +1,6 @@
 //! The service document.
 ghost use Rattle.std.specs.Prelude.{codes};
-ghost use Rattle.dep_docs_out.specs.Made.{Makes};
+ghost use Rattle.dep_docs_out.specs.Made.{MakesItems};
 ghost use Rattle.dep_docs_out.specs.Documents.{service_document, service_limits, service_offers, service_places, url};
 ghost use Rattle.dep_docs_out.specs.Json.{AddsMembers};
 
@@ -13,7 +13,7 @@ use std::alloc::{AllocError, Global};
 /// Returns the service document of SWORD 3.0: what the server offers, its limits, and where it takes
 /// deposits.
 pub fn service_doc(alloc: Global, config: &Config) -> Result<Vec<u8>, AllocError>
-    ensures { Makes result (service_document config.now) }
+    ensures { MakesItems result (service_document config.now) }
 {
     let mut document = Document::begun(alloc)?;
     add_offers(&mut document, alloc, config);

@@ -1,6 +1,6 @@
 //! The status document.
 ghost use Rattle.std.specs.Prelude.{◌≡◌, ℕ, List, [], ◌∷◌, codes};
-ghost use Rattle.dep_docs_out.specs.Made.{Makes, MakesText};
+ghost use Rattle.dep_docs_out.specs.Made.{MakesItems, MakesText};
 ghost use Rattle.dep_docs_out.specs.Documents.{actions_data, behalf_members, deposit_relation, link_data, links_data, object_members, part_data, relations_data, state_id, state_members, status_document};
 ghost use Rattle.dep_docs_out.specs.Json.{AddsItems, AddsMember, AddsMembers};
 
@@ -14,7 +14,7 @@ use std::alloc::{AllocError, Global};
 /// Returns the status document of SWORD 3.0: an object, and a link for each of its files in their order. A
 /// file's moment after the end of the year 9999 is written as that year's last second.
 pub fn status_doc(alloc: Global, config: &Config, view: &ObjectView) -> Result<Vec<u8>, AllocError>
-    ensures { Makes result (status_document config.now view.now) }
+    ensures { MakesItems result (status_document config.now view.now) }
 {
     let mut document = Document::begun(alloc)?;
     add_object(&mut document, alloc, config, &view.object);

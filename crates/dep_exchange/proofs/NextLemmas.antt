@@ -13,7 +13,7 @@ use Rattle.dep_exchange.specs.Machine.{state_after, answer_at_place, SendsUpTo, 
 use Rattle.dep_exchange.specs.Sending.{Outside, Passes, outside, outside_of}
 use Rattle.dep_exchange.specs.Owing.{Owing}
 use Rattle.dep_exchange.specs.Serving.{KeepsIntake, Arrival, Answers, IsDeadIfShut, Progress, ServesOver, answer_after}
-use Rattle.dep_exchange.specs.Nexts.{Stays, Rests, RunsOut, IsLast, IsDead, Ends, GoesOn, IsWaiting, AnswersNext, TakesNext, arrived_by, ended_as, next_behind, reading_behind}
+use Rattle.dep_exchange.specs.Nexts.{Stays, Rests, RunsOut, IsLast, IsDead, Ends, GoesOn, IsWaiting, AnswersNext, TakesNext, arrived_after, ended_as, next_behind, reading_behind}
 use Rattle.dep_exchange.specs.Shut.{EndsFixed, waits, has_ended}
 use Rattle.dep_exchange.specs.declared.rest.Rest.{Rest}
 use Rattle.dep_exchange.specs.declared.arrived.Arrived.{Arrived}
@@ -189,7 +189,7 @@ module _ (config : Config) (came : Arrival) (old mid new : Outside) (reading : R
 
   -- no item is answered any more
   pub serves_stop : (n : Next) (at : Place) → Settles new.store → (IsDeadIfShut came.reading → IsDeadIfShut reading) → n ≢ More
-      → AnswersNext config reading came.moment mid new at n → ServesOver config came old new at (arrived_by n)
+      → AnswersNext config reading came.moment mid new at n → ServesOver config came old new at (arrived_after n)
   serves_stop More at settles dead never a = absurd (never refl)
   serves_stop next.Waiting at settles dead never a = serves_wait at settles dead a
   serves_stop next.Closed at settles dead never a = serves_end Closed at settles a
@@ -197,7 +197,7 @@ module _ (config : Config) (came : Arrival) (old mid new : Outside) (reading : R
   serves_stop next.NoSuch at settles dead never a = absurd a
 
 -- and it is there
-pub arrived_there : (config : Config) (reading : Reading) (moment : ℕ) (old new : Outside) (at : Place) (n : Next) → AnswersNext config reading moment old new at n → arrived_by n ≢ NoSuch
+pub arrived_there : (config : Config) (reading : Reading) (moment : ℕ) (old new : Outside) (at : Place) (n : Next) → AnswersNext config reading moment old new at n → arrived_after n ≢ NoSuch
 arrived_there config reading moment old new at More a = open_there
 arrived_there config reading moment old new at next.Waiting a = open_there
 arrived_there config reading moment old new at next.Closed a = closed_there

@@ -16,7 +16,7 @@ use Rattle.dep_types.specs.Conditions.{Condition, Represents, HasCleanDisk, Leav
 use Rattle.dep_exchange.specs.Machine.{starting_state, step, replies, state_after, continue_line, Fails, Serves, given_up, cut_short, serves_all, step_fails, gives_up, answer_at_place}
 use Rattle.dep_exchange.specs.Archives.{FailsIfShut, Ticks}
 use Rattle.dep_exchange.specs.Causes.{IsCutInContent}
-use Rattle.dep_exchange.specs.Sending.{IsReplySent, SendsOver, SendsReply, Outside, Passes, SendsStep, reply_to}
+use Rattle.dep_exchange.specs.Sending.{IsReplySent, SendsOver, SendsReply, Outside, Passes, SendsStep, fault_reply}
 use Rattle.dep_exchange.specs.Serving.{Arrival, IsDeadIfShut, FailsFrom, IsAnsweredBy, IsFixedSent, IsAnsweredShut, IsStill, ReadsWith, Answers, Progress, ServesFrom, ServesOver, answer_after}
 use Rattle.dep_exchange.specs.Nexts.{RunsOut}
 use Rattle.dep_exchange.specs.Shut.{LeavesNoMore, IfShut, EndsFixed, has_ended}
@@ -117,30 +117,30 @@ module _ (config : Config) (old new : Outside) (item : Item) (moment : ℕ) (fau
     (gives : HasCleanDisk new.store → (s : State) → Represents old.store s → GivesUp config s item moment new.store)
     (asks : (sent : List ℕ) (answer : Answered) → IsFixedSent sent answer → IsAnsweredShut item sent answer)
     (shut : IfShut old.store new.store (LeavesNoMore old.store new.store)) where
-  fails_given : (how : Answered) (x : SendsOver old.taken new.taken old.failures new.failures (reply_to fault) how)
+  fails_given : (how : Answered) (x : SendsOver old.taken new.taken old.failures new.failures (fault_reply fault) how)
       → HasCleanDisk new.store → (s : State) → Represents old.store s → FailsFrom config s item moment x.0 old new (answer_after how)
   fails_given how x disk s represents = let v = gives disk s represents in record {
     left = v.left;
-    fails = given_up (is_fixed fault) (sends_up_to (reply_to fault) x.0 how x.2) v.is_left;
+    fails = given_up (is_fixed fault) (sends_up_to (fault_reply fault) x.0 how x.2) v.is_left;
     represents = v.represents;
     stop = v.stop;
     cause = λ e. inl (x.3 (was_cut how e));
   }
 
-  pub answers_fixed : (answer : Answered) → SendsOver old.taken new.taken old.failures new.failures (reply_to fault) answer
+  pub answers_fixed : (answer : Answered) → SendsOver old.taken new.taken old.failures new.failures (fault_reply fault) answer
       → Answers config old new item moment answer
   answers_fixed Sent x = absurd x.2
   answers_fixed GaveUp x = record {
     sent = x.0;
     passes = record { appends = x.1; honest = honest; clean = clean };
     steps = fails_given GaveUp x;
-    shut = λ disk none. (asks x.0 GaveUp (reply_to fault, is_fixed fault, x.2), shut disk none);
+    shut = λ disk none. (asks x.0 GaveUp (fault_reply fault, is_fixed fault, x.2), shut disk none);
   }
   answers_fixed CutShort x = record {
     sent = x.0;
     passes = record { appends = x.1; honest = honest; clean = clean };
     steps = fails_given CutShort x;
-    shut = λ disk none. (asks x.0 CutShort (reply_to fault, is_fixed fault, x.2), shut disk none);
+    shut = λ disk none. (asks x.0 CutShort (fault_reply fault, is_fixed fault, x.2), shut disk none);
   }
 
 -- the clock couldn't go on, with which the item's step begins
@@ -148,7 +148,7 @@ pub answers_unticked : (config : Config) (old new : Outside) (item : Item) (mome
     → ((s : State) → starting_state config s item moment ≡ tick config s moment)
     → ((sent : List ℕ) (answer : Answered) → IsFixedSent sent answer → IsAnsweredShut item sent answer)
     → Ticks old.store new.store config moment (Err fault) → FailsIfShut {A = ℕ} old.store new.store (Err fault)
-    → (answer : Answered) → SendsOver old.taken new.taken old.failures new.failures (reply_to fault) answer → Answers config old new item moment answer
+    → (answer : Answered) → SendsOver old.taken new.taken old.failures new.failures (fault_reply fault) answer → Answers config old new item moment answer
 answers_unticked config old new item moment fault starts asks ticks fails answer sends =
     answers_fixed config old new item moment fault ticks.honest ticks.was_open
     (λ disk s represents. record {

@@ -6,7 +6,7 @@ use Rattle.dep_types.specs.declared.store_fault.StoreFault.{StoreFault}
 use Rattle.dep_types.specs.declared.store_fault.StoreFault.TheVariants.{Store, Memory}
 use Rattle.dep_message.specs.Stream.{Item, Fault, Continue, Request}
 use Rattle.dep_exchange.specs.Machine.{SendsUpTo, all, cut}
-use Rattle.dep_exchange.specs.Sending.{IsSentUpTo, Outside, Passes, reply_to}
+use Rattle.dep_exchange.specs.Sending.{IsSentUpTo, Outside, Passes, fault_reply}
 use Rattle.dep_exchange.specs.Serving.{IsAnsweredShut, OnlyContinues, answer_after}
 use Rattle.dep_exchange.specs.Shut.{LeavesNoMore, IfShut, IsFixed, EndsFixed, gives_up, cuts_continue, SendsFixed}
 use Rattle.dep_exchange.specs.declared.arrived.Arrived.{Arrived}
@@ -55,7 +55,7 @@ none_sent whole sent h = elim h [ ]
 pub there_sent : {whole sent : List ℕ} {answer : Arrived} → SendsUpTo whole sent answer → answer ≢ NoSuch
 there_sent {whole} {sent} h e = none_sent whole sent (subst (λ a. SendsUpTo whole sent a) e h)
 
-pub is_fixed : (fault : StoreFault) → IsFixed (reply_to fault)
+pub is_fixed : (fault : StoreFault) → IsFixed (fault_reply fault)
 is_fixed Store = inr refl
 is_fixed Memory = inl refl
 

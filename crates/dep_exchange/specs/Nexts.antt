@@ -109,12 +109,12 @@ ended_as came.Closed = Closed
 ended_as came.NoSuch = Closed
 
 -- how an arrival returns that no item is answered any more
-abbrev pub arrived_by : Next → Arrived
-arrived_by More = came.Open
-arrived_by Waiting = came.Open
-arrived_by Closed = came.Closed
-arrived_by Cut = came.Cut
-arrived_by NoSuch = came.NoSuch
+abbrev pub arrived_after : Next → Arrived
+arrived_after More = came.Open
+arrived_after Waiting = came.Open
+arrived_after Closed = came.Closed
+arrived_after Cut = came.Cut
+arrived_after NoSuch = came.NoSuch
 
 -- what comes after an item that was answered so
 abbrev pub next_behind : Answered → (is_last : Bool) → Next

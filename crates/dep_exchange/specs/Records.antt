@@ -3,7 +3,7 @@ use Rattle.std.specs.Prelude.{◌≡◌, ℕ, ◌==◌, List, [], ◌∷◌, ◌
 use Rattle.dep_types.specs.State.{State}
 use Rattle.dep_types.specs.declared.config.Config.{Config}
 use Rattle.dep_message.specs.Places.{Place, Open, Shut}
-use Rattle.dep_message.specs.Stream.{Item, Reads, Spells}
+use Rattle.dep_message.specs.Stream.{Item, ReadsItems, Spells}
 use Rattle.dep_exchange.specs.Machine.{Serves}
 use Rattle.dep_exchange.specs.Stops.{LeftByServing, EndsGivenUp}
 use Rattle.dep_exchange.specs.declared.arrived.Arrived.{Arrived}
@@ -51,7 +51,7 @@ line_after stream Shut = ShutLine
 abbrev pub ReadsBeyond : ℕ → List ℕ → List ℕ → List Item → Place → Type 0
 ReadsBeyond limit stream piece items at =
     (earlier : List Item) × (left : Place) × Spells limit stream earlier left
-    × Reads limit (Open false (stream ++ piece)) (earlier ++ items) at
+    × ReadsItems limit (Open false (stream ++ piece)) (earlier ++ items) at
 
 -- an arrival at a connection: what is sent, what is kept, what becomes of it, what is answered
 pub data Arrives (config : Config) (piece : List ℕ) (moment : ℕ)

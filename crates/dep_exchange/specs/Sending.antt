@@ -38,9 +38,9 @@ SendsReply held holds whole answer =
     (sent : List ℕ) × Appends held holds sent × IsReplySent whole sent answer
 
 -- the fixed reply for a fault
-abbrev pub reply_to : StoreFault → List ℕ
-reply_to Store = store_fault
-reply_to Memory = out_of_memory
+abbrev pub fault_reply : StoreFault → List ℕ
+fault_reply Store = store_fault
+fault_reply Memory = out_of_memory
 
 -- what lies outside the machine: the bytes that the outlet took, where it shows them, how often it
 -- has failed, and the store

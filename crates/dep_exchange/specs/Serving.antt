@@ -5,7 +5,7 @@ use Rattle.dep_types.specs.Writing.{HasRisen}
 use Rattle.dep_types.specs.declared.config.Config.{Config}
 use Rattle.dep_message.specs.Heads.{closes}
 use Rattle.dep_message.specs.Places.{Place, Shut, Reading, place_with}
-use Rattle.dep_message.specs.Stream.{FirstAt, Item, Fault, Continue, Request, Reads}
+use Rattle.dep_message.specs.Stream.{FirstAt, Item, Fault, Continue, Request, ReadsItems}
 use Rattle.dep_types.specs.Conditions.{Condition, Represents, HasCleanDisk, Leaves}
 use Rattle.dep_answers.specs.Performing.{file_id}
 use Rattle.dep_exchange.specs.Machine.{step, replies, state_after, continue_line, Fails, Serves}
@@ -108,7 +108,7 @@ pub record KeepsIntake (old new : Reading) : Type 0 where
 
 -- these items are the first that are read with the piece, and the reading then stands at the place
 abbrev pub ReadsWith : Arrival → List Item → Place → Type 0
-ReadsWith a items at = Reads a.reading.limit (place_with a.reading.place a.piece) items at
+ReadsWith a items at = ReadsItems a.reading.limit (place_with a.reading.place a.piece) items at
 
 -- the store represents the state after these items, and their replies are what was sent
 pub record Replied (config : Config) (a : Arrival) (s : State) (items : List Item) (sent : List ℕ)

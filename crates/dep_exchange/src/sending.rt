@@ -1,7 +1,7 @@
 //! Replies that are sent over an outlet.
 ghost use Rattle.std.specs.Prelude.{◌≡◌, None, Some, IfSome};
 ghost use Rattle.dep_types.specs.Writing.{HasRisen};
-ghost use Rattle.dep_exchange.specs.Sending.{SendsOver, SendsReady, SendsReply, outside_of, reply_to};
+ghost use Rattle.dep_exchange.specs.Sending.{SendsOver, SendsReady, SendsReply, outside_of, fault_reply};
 ghost use Rattle.dep_exchange.specs.Owing.{Owing};
 
 use crate::access_log::AccessLog;
@@ -30,7 +30,7 @@ const STORE_FAULT: &[u8] =
 
 // The fixed reply for a fault (RFC 9110, sections 15.6.1 and 15.6.4).
 fn fixed_reply(fault: StoreFault) -> &'static [u8]
-    ensures { result.now ≡ reply_to fault }
+    ensures { result.now ≡ fault_reply fault }
 {
     match fault {
         StoreFault::Store => STORE_FAULT,
@@ -53,7 +53,7 @@ pub(crate) fn send_fault<O: Outlet, L: AccessLog>(
     log: &mut L,
 ) -> Answered
     ensures { SendsOver (O.taken out.old) (O.taken out.new)
-        (O.failures out.old) (O.failures out.new) (reply_to fault) result }
+        (O.failures out.old) (O.failures out.new) (fault_reply fault) result }
 {
     let fixed = fixed_reply(fault);
     log.reply(fixed_status(fault), None);

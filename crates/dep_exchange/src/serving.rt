@@ -4,7 +4,7 @@ ghost use Rattle.dep_message.specs.Places.{shut_reading};
 ghost use Rattle.dep_exchange.specs.Sending.{outside_of};
 ghost use Rattle.dep_exchange.specs.Serving.{BeginsFirst, ServesOver, KeepsIntake, arrival_with, answer_after};
 ghost use Rattle.dep_exchange.specs.Owing.{Owing};
-ghost use Rattle.dep_exchange.specs.Nexts.{TakesNext, ReportsLackOfMemory, arrived_by, ended_as, next_behind, reading_behind};
+ghost use Rattle.dep_exchange.specs.Nexts.{TakesNext, ReportsLackOfMemory, arrived_after, ended_as, next_behind, reading_behind};
 
 use crate::access_log::{AccessLog, NoLog};
 use crate::archive::Archive;
@@ -63,7 +63,7 @@ pub fn serve<A: Archive, O: Outlet>(
 
 // How an arrival returns this, where no item is answered any more.
 fn arrived(next: Next) -> Arrived
-    ensures { result ≡ arrived_by next }
+    ensures { result ≡ arrived_after next }
 {
     match next {
         Next::More | Next::Waiting => Arrived::Open,

@@ -2,7 +2,7 @@
 use Rattle.std.proofs.Common.{◌≡◌, ◌≤◌, nat_lt, ℕ, List, Bool, true, false, Option, Some, None, option_and_then, IsTrue, refl, ap, subst, arith, inl, inr, codes, if◌then◌else◌}
 use Rattle.std.proofs.lemmas.Bool.Decides.{nat_tests}
 use Rattle.dep_types.specs.Names.{if_passes, is_media}
-use Rattle.dep_params.specs.Grammar.{value_of}
+use Rattle.dep_params.specs.Grammar.{parameter_value}
 use Rattle.dep_params.proofs.Runs.{chosen}
 use Rattle.dep_fixity.specs.Fixity.{none_promised}
 use Rattle.dep_fixity.specs.declared.field.DigestList.{DigestList}
@@ -55,8 +55,8 @@ fit_kind text Metadata is = tt
 fit_kind text References is = tt
 fit_kind text (Opens o) is =
     let found = opened _ _ _ _ o is.kind_is.opening_is in
-    let long = promised_long (value_of (codes "digest") is.reading) o.digest found.1 in
-    (positive_by o.count (number (value_of (codes "segment_count") is.reading)) found.0, long.0, long.1)
+    let long = promised_long (parameter_value (codes "digest") is.reading) o.digest found.1 in
+    (positive_by o.count (number (parameter_value (codes "segment_count") is.reading)) found.0, long.0, long.1)
 fit_kind text (Segment n) is = tt
 
 read_kind : (text : List ℕ) (o : Option Kind) → kind_read text ≡ o → IfValue (or_bad o) IsFitKind

@@ -1,13 +1,13 @@
 -- What the fields of a head tell as a function is what they tell.
 use Rattle.std.proofs.Common.{◌≡◌, ◌∙◌, ℕ, List, Bool, true, false, codes, bytes_eq, Option, Some, None, option_map, option_and_then, refl, ap, subst, inl, inr}
 use Rattle.std.proofs.lemmas.Slice.Eq.{bytes_eq-Decides}
-use Rattle.dep_params.specs.Grammar.{DispositionValue, names_of, value_of}
+use Rattle.dep_params.specs.Grammar.{DispositionValue, names_of, parameter_value}
 use Rattle.dep_params.specs.Reported.{file_name_of, is_each_once, disposition_of}
 use Rattle.dep_params.proofs.Runs.{chosen}
 use Rattle.dep_params.proofs.ReportedReadings.{reading-sound, reading-complete, once-sound, once-complete}
 use Rattle.dep_params.proofs.ReportedNames.{file_name-sound, file_name-complete}
 use Rattle.dep_fields.specs.Fields.{AreFields}
-use Rattle.dep_fields.specs.Kinds.{IsAttachment, IsKind, IsKindOf, flag, number, opening_of}
+use Rattle.dep_fields.specs.Kinds.{IsAttachment, IsKind, IsKindOf, flag_in, number, opening_of}
 use Rattle.dep_fields.specs.Reported.{attached, fields_of, kind_in, kind_of, kind_once, kind_read}
 use Rattle.dep_fields.specs.Values.{IsRead, IsReadFrom, or_bad, read_from}
 use Rattle.dep_fields.specs.declared.field.Field.{Field}
@@ -26,7 +26,7 @@ file-sound reading kind (Some name) is named h =
     subst (IsKindOf reading) same (is, file_name-sound reading name named)
 
 attached-sound : (reading : DispositionValue) (kind : Kind) (metadata by_reference : Option Bool) → reading.form ≡ codes "attachment"
-    → flag (value_of (codes "metadata") reading) ≡ metadata → flag (value_of (codes "by-reference") reading) ≡ by_reference
+    → flag_in (parameter_value (codes "metadata") reading) ≡ metadata → flag_in (parameter_value (codes "by-reference") reading) ≡ by_reference
     → attached reading metadata by_reference ≡ Some kind → IsKindOf reading kind
 attached-sound reading kind (Some true) (Some false) form e f h =
     let same : Metadata ≡ kind = cc h in
@@ -48,7 +48,7 @@ opening-sound reading kind (Some x) form is h =
     let same : Opens x ≡ kind = cc h in
     subst (IsKindOf reading) same (record { form = form; opening_is = is })
 
-segment-sound : (reading : DispositionValue) (kind : Kind) (o : Option ℕ) → reading.form ≡ codes "segment" → number (value_of (codes "segment_number") reading) ≡ o
+segment-sound : (reading : DispositionValue) (kind : Kind) (o : Option ℕ) → reading.form ≡ codes "segment" → number (parameter_value (codes "segment_number") reading) ≡ o
     → option_map (λ n. Segment n) o ≡ Some kind → IsKindOf reading kind
 segment-sound reading kind None form is h = cc h
 segment-sound reading kind (Some n) form is h =
@@ -62,7 +62,7 @@ kind-sound reading kind h = elim (chosen (bytes_eq reading.form (codes "attachme
   | inr first ↦ elim (chosen (bytes_eq reading.form (codes "segment-init")) _ _ (Some kind) first.1) [
     | inl is ↦ opening-sound reading kind (opening_of reading) ((bytes_eq-Decides reading.form (codes "segment-init")).0 is.0) refl is.1
     | inr more ↦ elim (chosen (bytes_eq reading.form (codes "segment")) _ _ (Some kind) more.1) [
-      | inl is ↦ segment-sound reading kind (number (value_of (codes "segment_number") reading)) ((bytes_eq-Decides reading.form (codes "segment")).0 is.0) refl is.1
+      | inl is ↦ segment-sound reading kind (number (parameter_value (codes "segment_number") reading)) ((bytes_eq-Decides reading.form (codes "segment")).0 is.0) refl is.1
       | inr none ↦ cc (none.1)
     ]
   ]
@@ -72,7 +72,7 @@ flags : (reading : DispositionValue) (metadata by_reference : Bool) → IsAttach
 unfolding kind_of
 flags reading metadata by_reference is =
     ap (λ f. kind_in f reading) is.form
-    ∙ ap (λ o. attached reading o (flag (value_of (codes "by-reference") reading))) is.metadata_is
+    ∙ ap (λ o. attached reading o (flag_in (parameter_value (codes "by-reference") reading))) is.metadata_is
     ∙ ap (λ o. attached reading (Some metadata) o) is.by_reference_is
 
 kind-complete : (reading : DispositionValue) (kind : Kind) → IsKindOf reading kind → kind_of reading ≡ Some kind

@@ -5,7 +5,7 @@ use Rattle.dep_head.specs.Head.{values_of}
 use Rattle.dep_types.specs.Names.{if_passes, is_media}
 use Rattle.dep_fixity.specs.Fixity.{digest_field}
 use Rattle.dep_fields.specs.Kinds.{IsKind, truth}
-use Rattle.dep_fields.specs.Values.{HasValue, IsReadFrom, joined, read_from, single}
+use Rattle.dep_fields.specs.Values.{HasValue, IsReadFrom, joined_values, read_from, single}
 use Rattle.dep_fields.specs.declared.field.Field.{Field}
 use Rattle.dep_fields.specs.declared.field.Field.TheVariants.{Bad}
 use Rattle.dep_fields.specs.declared.fields.SwordFields.{SwordFields}
@@ -36,7 +36,7 @@ pub record AreFields (fields : List (List ℕ × List ℕ)) (reported : SwordFie
       ≡ read_from (if_passes is_media) (field_in fields (codes "Content-Type"))
   pub content_encoding : reported.content_encoding
       ≡ read_from as_it_stands (field_in fields (codes "Content-Encoding"))
-  pub digest : reported.digest ≡ read_from digest_field (joined (values_of fields (codes "Digest")))
+  pub digest : reported.digest ≡ read_from digest_field (joined_values (values_of fields (codes "Digest")))
 
 -- a text that is copied stands in the head: a value, a disposition, or digests in more than one field
 pub data IsCopied (fields : List (List ℕ × List ℕ)) : Type 0 where

@@ -5,10 +5,12 @@ use Rattle.std.specs.Str.{str_eq_ignore_ascii_case}
 use Rattle.dep_octets.specs.Octets.{decimal_number}
 use Rattle.dep_octets.specs.declared.numbers.Number.{Number}
 use Rattle.dep_octets.specs.declared.numbers.Number.TheVariants.{NotDigits, Above, Value}
-use Rattle.dep_params.specs.Grammar.{IsDisposition, DispositionValue, names_of, value_of}
+use Rattle.dep_params.specs.Grammar.{IsDisposition, DispositionValue, names_of, parameter_value}
 use Rattle.dep_params.specs.Names.{IsFileName}
 use Rattle.dep_fixity.specs.Fixity.{digest_field, none_promised}
 use Rattle.dep_fixity.specs.declared.field.DigestList.{DigestList}
+use Rattle.dep_fields.specs.declared.field.Field.{Field}
+use Rattle.dep_fields.specs.declared.field.Field.TheVariants as field
 use Rattle.dep_fields.specs.declared.kind.Opening.{Opening}
 use Rattle.dep_fields.specs.declared.kind.Kind.{Kind}
 use Rattle.dep_fields.specs.declared.kind.Kind.TheVariants.{File, Metadata, References, Opening as Opens, Segment}
@@ -21,9 +23,9 @@ truth text =
     else None
 
 -- a truth, which is false where nothing is said
-abbrev pub flag : Option (List ℕ) → Option Bool
-flag None = Some false
-flag (Some text) = truth text
+abbrev pub flag_in : Option (List ℕ) → Option Bool
+flag_in None = Some false
+flag_in (Some text) = truth text
 
 -- the greatest number of 64 bits
 abbrev pub greatest : ℕ
@@ -51,8 +53,8 @@ promised (Some text) = digest_field text
 -- an attachment with these flags
 pub record IsAttachment (reading : DispositionValue) (metadata by_reference : Bool) : Type 0 where
   pub form : reading.form ≡ codes "attachment"
-  pub metadata_is : flag (value_of (codes "metadata") reading) ≡ Some metadata
-  pub by_reference_is : flag (value_of (codes "by-reference") reading) ≡ Some by_reference
+  pub metadata_is : flag_in (parameter_value (codes "metadata") reading) ≡ Some metadata
+  pub by_reference_is : flag_in (parameter_value (codes "by-reference") reading) ≡ Some by_reference
 
 -- what is to be opened, where all of it can be read
 abbrev pub opening_by : Option ℕ → Option ℕ → Option ℕ → Option DigestList → Option Opening
@@ -63,10 +65,10 @@ opening_by _ _ _ _ = None
 -- what the parameters say is to be opened
 abbrev pub opening_of : DispositionValue → Option Opening
 opening_of reading =
-    opening_by (positive (value_of (codes "size") reading))
-    (positive (value_of (codes "segment_count") reading))
-    (positive (value_of (codes "segment_size") reading))
-    (promised (value_of (codes "digest") reading))
+    opening_by (positive (parameter_value (codes "size") reading))
+    (positive (parameter_value (codes "segment_count") reading))
+    (positive (parameter_value (codes "segment_size") reading))
+    (promised (parameter_value (codes "digest") reading))
 
 -- an opening, with what is to be opened
 pub record IsOpening (reading : DispositionValue) (opening : Opening) : Type 0 where
@@ -76,7 +78,7 @@ pub record IsOpening (reading : DispositionValue) (opening : Opening) : Type 0 w
 -- which segment it is
 pub record IsSegment (reading : DispositionValue) (segment : ℕ) : Type 0 where
   pub form : reading.form ≡ codes "segment"
-  pub segment_is : number (value_of (codes "segment_number") reading) ≡ Some segment
+  pub segment_is : number (parameter_value (codes "segment_number") reading) ≡ Some segment
 
 -- the disposition is of this kind
 abbrev pub IsKindOf : DispositionValue → Kind → Type 0
@@ -85,6 +87,11 @@ IsKindOf reading Metadata = IsAttachment reading true false
 IsKindOf reading References = IsAttachment reading false true
 IsKindOf reading (Opens opening) = IsOpening reading opening
 IsKindOf reading (Segment n) = IsSegment reading n
+
+-- the content is a document of references
+abbrev pub is_by_reference : Field Kind → Bool
+is_by_reference (field.Value References) = true
+is_by_reference disposition = false
 
 -- the text is a disposition of this kind, in which no name stands twice
 pub record IsKind (text : List ℕ) (kind : Kind) : Type 0 where

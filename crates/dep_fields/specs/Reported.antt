@@ -2,12 +2,12 @@
 use Rattle.std.specs.Prelude.{ℕ, Bool, true, false, List, Option, Some, None, option_map, option_and_then, codes, bytes_eq, if◌then◌else◌}
 use Rattle.dep_head.specs.Head.{values_of}
 use Rattle.dep_types.specs.Names.{if_passes, is_media}
-use Rattle.dep_params.specs.Grammar.{DispositionValue, names_of, value_of}
+use Rattle.dep_params.specs.Grammar.{DispositionValue, names_of, parameter_value}
 use Rattle.dep_params.specs.Reported.{file_name_of, is_each_once, disposition_of}
 use Rattle.dep_fixity.specs.Fixity.{digest_field}
 use Rattle.dep_fields.specs.Fields.{as_it_stands, field_in, is_behalf}
-use Rattle.dep_fields.specs.Kinds.{flag, number, opening_of, truth}
-use Rattle.dep_fields.specs.Values.{joined, read_from}
+use Rattle.dep_fields.specs.Kinds.{flag_in, number, opening_of, truth}
+use Rattle.dep_fields.specs.Values.{joined_values, read_from}
 use Rattle.dep_fields.specs.declared.fields.SwordFields.{SwordFields}
 use Rattle.dep_fields.specs.declared.kind.Kind.{Kind}
 use Rattle.dep_fields.specs.declared.kind.Kind.TheVariants.{File, Metadata, References, Opening as Opens, Segment}
@@ -23,11 +23,11 @@ attached reading _ _ = None
 abbrev pub kind_in : (form : List ℕ) → DispositionValue → Option Kind
 kind_in form reading =
     if bytes_eq form (codes "attachment")
-    then attached reading (flag (value_of (codes "metadata") reading))
-    (flag (value_of (codes "by-reference") reading))
+    then attached reading (flag_in (parameter_value (codes "metadata") reading))
+    (flag_in (parameter_value (codes "by-reference") reading))
     else if bytes_eq form (codes "segment-init") then option_map (λ o. Opens o) (opening_of reading)
     else if bytes_eq form (codes "segment")
-    then option_map (λ n. Segment n) (number (value_of (codes "segment_number") reading))
+    then option_map (λ n. Segment n) (number (parameter_value (codes "segment_number") reading))
     else None
 
 unfoldable pub kind_of : DispositionValue → Option Kind
@@ -50,5 +50,5 @@ fields_of fields = record {
   metadata_format = read_from as_it_stands (field_in fields (codes "Metadata-Format"));
   content_type = read_from (if_passes is_media) (field_in fields (codes "Content-Type"));
   content_encoding = read_from as_it_stands (field_in fields (codes "Content-Encoding"));
-  digest = read_from digest_field (joined (values_of fields (codes "Digest")));
+  digest = read_from digest_field (joined_values (values_of fields (codes "Digest")));
 }

@@ -12,9 +12,9 @@ single (text ∷ []) = Value text
 single (text ∷ other ∷ more) = Bad
 
 -- the text of a field whose values are one comma list
-abbrev pub joined : List (List ℕ) → Field (List ℕ)
-joined [] = Absent
-joined (text ∷ more) = Value (join_with_byte 44 (text ∷ more))
+abbrev pub joined_values : List (List ℕ) → Field (List ℕ)
+joined_values [] = Absent
+joined_values (text ∷ more) = Value (join_with_byte 44 (text ∷ more))
 
 -- the value, and bad where there is none
 abbrev pub or_bad : {X : Type 0} → Option X → Field X

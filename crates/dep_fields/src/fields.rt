@@ -7,7 +7,7 @@ ghost use Rattle.dep_fields.specs.Copied.{AreCopies};
 ghost use Rattle.dep_fields.specs.Fields.{AreFields, IsCopied, as_it_stands, field_in, is_behalf};
 ghost use Rattle.dep_fields.specs.Reported.{fields_of};
 ghost use Rattle.dep_fields.specs.Kinds.{IsKind, truth};
-ghost use Rattle.dep_fields.specs.Values.{HasValue, IsReadFrom, joined, or_bad, read_from, texts};
+ghost use Rattle.dep_fields.specs.Values.{HasValue, IsReadFrom, joined_values, or_bad, read_from, texts};
 
 use crate::field::Field;
 use crate::kind::{Kind, read_kind, truth};
@@ -177,7 +177,7 @@ fn ascii_text(bytes: &[u8]) -> &str
 // One field is read where it stands; the texts of several are joined in a copy.
 fn digest(alloc: Global, head: &Head) -> Result<Field<DigestList>, AllocError>
     ensures { MatchResult result (λ read. read ≡
-        read_from digest_field (joined (values_of head.now.fields (codes "Digest"))))
+        read_from digest_field (joined_values (values_of head.now.fields (codes "Digest"))))
         (λ _. field_in head.now.fields (codes "Digest") ≡ Field.Bad) }
 {
     match single(head, "Digest") {

@@ -1,7 +1,7 @@
 //! What a content is for.
 ghost use Rattle.std.specs.Prelude.{◌≡◌, IfOk, false, codes};
 ghost use Rattle.std.specs.Option.{option_copied};
-ghost use Rattle.dep_fields.specs.Kinds.{IsAttachment, IsKind, IsKindOf, flag, truth};
+ghost use Rattle.dep_fields.specs.Kinds.{IsAttachment, IsKind, IsKindOf, flag_in, is_by_reference, truth};
 ghost use Rattle.dep_fields.specs.Values.{IsRead};
 
 use crate::field::Field;
@@ -38,6 +38,16 @@ pub enum Kind {
     Opening(Opening),
     /// The segment of a staged upload with this number.
     Segment(u64),
+}
+
+/// Whether the content is a document of references (SWORD 3.0, by-reference deposit).
+pub fn is_by_reference(disposition: &Field<Kind>) -> bool
+    ensures { result ≡ is_by_reference disposition.now }
+{
+    match disposition {
+        Field::Value(Kind::References) => true,
+        _ => false,
+    }
 }
 
 /// The kind that a Content-Disposition text says, or bad.
@@ -121,7 +131,7 @@ fn segment_of(disposition: &Disposition) -> Field<Kind>
 
 // A truth that is false where nothing is said.
 fn flag(text: Option<&[u8]>) -> Option<bool>
-    ensures { result ≡ flag (option_copied text.entry) }
+    ensures { result ≡ flag_in (option_copied text.entry) }
 {
     match text {
         Some(text) => truth(text),

@@ -11,4 +11,4 @@ mod values;
 pub use dep_tags::IfMatch;
 pub use field::Field;
 pub use fields::SwordFields;
-pub use kind::{Kind, Opening};
+pub use kind::{Kind, Opening, is_by_reference};

@@ -20,11 +20,11 @@ use Rattle.dep_tables.proofs.Leading.{blocks_at}
 use Rattle.dep_tables.proofs.BlocksTable.{of_owner, tests_owner, order, by_place_total}
 use Rattle.dep_types.specs.declared.stream_fault.StreamFault.{StreamFault}
 use Rattle.dep_types.specs.declared.stream_fault.StreamFault.TheVariants.{Writer, Store, Memory, NoSuchFile}
-use Rattle.dep_files.specs.Sent.{blob_of, joined, StopsBetween, StopsWithin, SendsSized, BeginsBlocks, SendsBlocks}
+use Rattle.dep_files.specs.Sent.{blob_of, joined_blobs, StopsBetween, StopsWithin, SendsSized, BeginsBlocks, SendsBlocks}
 
-joined_both : (xs ys : List Row) → joined (xs ++ ys) ≡ joined xs ++ joined ys
+joined_both : (xs ys : List Row) → joined_blobs (xs ++ ys) ≡ joined_blobs xs ++ joined_blobs ys
 joined_both [] ys = refl
-joined_both (x ∷ xs) ys = ap (λ l. blob_of x ++ l) (joined_both xs ys) ∙ sym (append_assoc (blob_of x) (joined xs) (joined ys))
+joined_both (x ∷ xs) ys = ap (λ l. blob_of x ++ l) (joined_both xs ys) ∙ sym (append_assoc (blob_of x) (joined_blobs xs) (joined_blobs ys))
 
 no_more : (xs ys : List ℕ) → xs ++ ys ≡ [] → xs ≡ []
 no_more [] ys e = refl
@@ -34,20 +34,20 @@ no_more (x ∷ xs) ys e = absurd cc
 module _ (sql : List ℕ) (params : Row) (old : State) (stored : List Row) (starts : (given : List Row) → Begins sql params old given → (tail : List Row) × InOrder by_part_and_place (map shown_block stored) (given ++ tail)) where
   between : (sent : List ℕ) → StopsBetween sql params old sent → (sent ≡ []) ⊎ BeginsBlocks stored sent
   between sent h = elim h.begins [
-    | inl none ↦ inl (h.sends ∙ ap joined none)
+    | inl none ↦ inl (h.sends ∙ ap joined_blobs none)
     | inr begun ↦
         let x = starts h.given begun in
-        inr (record { all = h.given ++ x.0; ordered = x.1; rest = joined x.0; whole = joined_both h.given x.0 ∙ ap (λ (l : List ℕ). l ++ joined x.0) (sym h.sends) })
+        inr (record { all = h.given ++ x.0; ordered = x.1; rest = joined_blobs x.0; whole = joined_both h.given x.0 ∙ ap (λ (l : List ℕ). l ++ joined_blobs x.0) (sym h.sends) })
   ]
 
   within : (sent : List ℕ) → StopsWithin sql params old sent → (b : BeginsBlocks stored sent) × (b.rest ≢ [])
   within sent h =
       let x = starts (h.given ++ h.row ∷ []) h.begins in
-      let front : joined (h.given ++ h.row ∷ []) ≡ (joined h.given ++ h.part) ++ h.short.rest =
-      joined_both h.given (h.row ∷ []) ∙ ap (λ (l : List ℕ). joined h.given ++ l) (append-nil (blob_of h.row) ∙ h.short.joined) ∙ sym (append_assoc (joined h.given) h.part h.short.rest) in
-      let whole : joined ((h.given ++ h.row ∷ []) ++ x.0) ≡ sent ++ (h.short.rest ++ joined x.0) =
-      joined_both (h.given ++ h.row ∷ []) x.0 ∙ ap (λ (l : List ℕ). l ++ joined x.0) (front ∙ ap (λ (l : List ℕ). l ++ h.short.rest) (sym h.sends)) ∙ append_assoc sent h.short.rest (joined x.0) in
-      (record { all = (h.given ++ h.row ∷ []) ++ x.0; ordered = x.1; rest = h.short.rest ++ joined x.0; whole = whole }, λ e. h.short.short (no_more h.short.rest (joined x.0) e))
+      let front : joined_blobs (h.given ++ h.row ∷ []) ≡ (joined_blobs h.given ++ h.part) ++ h.short.rest =
+      joined_both h.given (h.row ∷ []) ∙ ap (λ (l : List ℕ). joined_blobs h.given ++ l) (append-nil (blob_of h.row) ∙ h.short.joined) ∙ sym (append_assoc (joined_blobs h.given) h.part h.short.rest) in
+      let whole : joined_blobs ((h.given ++ h.row ∷ []) ++ x.0) ≡ sent ++ (h.short.rest ++ joined_blobs x.0) =
+      joined_both (h.given ++ h.row ∷ []) x.0 ∙ ap (λ (l : List ℕ). l ++ joined_blobs x.0) (front ∙ ap (λ (l : List ℕ). l ++ h.short.rest) (sym h.sends)) ∙ append_assoc sent h.short.rest (joined_blobs x.0) in
+      (record { all = (h.given ++ h.row ∷ []) ++ x.0; ordered = x.1; rest = h.short.rest ++ joined_blobs x.0; whole = whole }, λ e. h.short.short (no_more h.short.rest (joined_blobs x.0) e))
 
   sends : (size : ℕ) (sent : List ℕ) (r : Result (Unit {0}) StreamFault) → SendsSized sql params old size sent r → SendsBlocks stored size sent r
   sends size sent (Ok done) h = (between sent h.0, h.1)

@@ -13,7 +13,7 @@ use Rattle.sqlite.specs.Next.{HasMoved}
 use Rattle.sqlite.specs.declared.error.Error.{Error}
 use Rattle.sqlite.specs.declared.rows.stream.Rows.{Rows}
 use Rattle.sqlite_trees.specs.declared.store.Store.{Ghosts}
-use Rattle.dep_files.specs.Sent.{blob_of, joined}
+use Rattle.dep_files.specs.Sent.{blob_of, joined_blobs}
 use Rattle.dep_files.specs.Clauses.{OnlyReads, OnlyShows, StaysOver, ReportsSeen, ReadsOver, FailsOver, FindsOver}
 use Rattle.dep_files.proofs.NextRow.{clean_before, refused_stays, stays_on, unchanged_on}
 use Rattle.dep_files.proofs.SendingLemmas.{begins_from, fails_from, joined_push}
@@ -36,7 +36,7 @@ use Rattle.dep_files.proofs.ShownFrom.{shown_from}
 -- the hasher holds the rows that were given so far
 abbrev pub Hashed : {S : Type 0} → Ghosts S → List ℕ → Row → State → Held S → ℕ → Hasher → Type 0
 Hashed g sql params first now count hasher =
-    (given : List Row) × HasGiven g sql params now given × IsUnchanged first (state g now) × Holds hasher (joined given) × (length given ≡ count)
+    (given : List Row) × HasGiven g sql params now given × IsUnchanged first (state g now) × Holds hasher (joined_blobs given) × (length given ≡ count)
 
 -- what the hashing of a query's rows leaves, by what it answers
 pub record EndsHashing {S : Type 0} (g : Ghosts S) (sql : List ℕ) (params : Row) (first new : Held S) (result : Result Digests StoreFault) : Type 0 where
@@ -81,7 +81,7 @@ module _ {S : Type 0} (g : Ghosts S) (old new : Rows S g) (result : Result (Opti
         let shown = (rw is at (moved.ok late)) sql params was.0 was.1 in record {
           rows = was.0;
           shown = shown_from sql params first (state g old.conn.now) (state g new.conn.now) was.0 was.2 plain shown;
-          are = made (joined was.0) was.3;
+          are = made (joined_blobs was.0) was.3;
         }
 
     pub hashed_more : (row : Bor Row) (after : Hasher) → result ≡ Ok (Some row)
@@ -90,7 +90,7 @@ module _ {S : Type 0} (g : Ghosts S) (old new : Rows S g) (result : Result (Opti
       was.0 ++ row.now ∷ [],
       (rw is at (moved.ok late)) sql params was.0 was.1,
       unchanged first (Some row) is late was.2,
-      subst (Holds after) (sym (joined_push was.0 row.now)) (more (joined was.0) was.3),
+      subst (Holds after) (sym (joined_push was.0 row.now)) (more (joined_blobs was.0) was.3),
       length-append was.0 (row.now ∷ []) ∙ ap (λ n. n + 1) was.4,
     )
 

@@ -27,7 +27,7 @@ use Rattle.dep_files.specs.Causes.{FailsToGive, FailsToGiveBlocks, FailsToSend, 
 use Rattle.dep_files.specs.Causes.FailsToGiveBlocks.{not_given}
 use Rattle.dep_files.specs.Causes.FailsToGive.{query_failed, too_few, unread, uncounted}
 use Rattle.dep_files.specs.Faults.{BlamesOutlet, IsStoppedBy}
-use Rattle.dep_files.specs.Sent.{blob_of, joined, GivesSized, StopsBetween, SendsBlocksOf, SendsSized}
+use Rattle.dep_files.specs.Sent.{blob_of, joined_blobs, GivesSized, StopsBetween, SendsBlocksOf, SendsSized}
 use Rattle.dep_types.specs.StoreFaults.{stream_fault_for}
 use Rattle.dep_types.specs.declared.stream_fault.StreamFault.{StreamFault}
 use Rattle.dep_types.specs.declared.stream_fault.StreamFault.TheVariants.{Writer, Store, Memory, NoSuchFile}
@@ -78,7 +78,7 @@ pub record HasSent {S : Type 0} (g : Ghosts S) (sql : List ℕ) (params : Row) (
   pub counted : left + length sent ≡ size
   pub appended : Appends start taken sent
   pub shown : HasCleanDisk (state g now)
-      → (given : List Row) × HasGiven g sql params now given × IsUnchanged (state g first) (state g now) × (sent ≡ joined given) × (length given ≡ count)
+      → (given : List Row) × HasGiven g sql params now given × IsUnchanged (state g first) (state g now) × (sent ≡ joined_blobs given) × (length given ≡ count)
   pub stays : StaysOver g first now
   pub same : are ≡ were
 
@@ -155,15 +155,15 @@ cut_there NoSuchFile old next bytes gave e = gave
 -- why a row was not sent
 cut_why : (sql : List ℕ) (params : Row) (first new : State) (size left : ℕ) (sent : List ℕ) (given : List Row) (it : Row) (fault : StreamFault) (old next : Option (List ℕ))
     → GivesSized old next (blob_of it) (Err fault) → (fails ℕ fault ≡ fails ℕ Store → (¬ (IsBytesValue (column it 2))) ⊎ (left < length (blob_of it)))
-    → left + length sent ≡ size → sent ≡ joined given → Begins sql params first (given ++ it ∷ []) → IsStoppedBy (FailsToGive sql params (Some size) first new) fault
+    → left + length sent ≡ size → sent ≡ joined_blobs given → Begins sql params first (given ++ it ∷ []) → IsStoppedBy (FailsToGive sql params (Some size) first new) fault
 cut_why sql params first new size left sent given it Writer old next gave refused counted is begins = tt
 cut_why sql params first new size left sent given it Memory old next gave refused counted is begins = absurd gave
 cut_why sql params first new size left sent given it NoSuchFile old next gave refused counted is begins = absurd gave
 cut_why sql params first new size left sent given it Store old next gave refused counted is begins = unread given it begins (go (refused refl)) refl
   where
-    go : (¬ (IsBytesValue (column it 2))) ⊎ (left < length (blob_of it)) → (¬ (IsBytesValue (column it 2))) ⊎ (size < length (joined (given ++ it ∷ [])))
+    go : (¬ (IsBytesValue (column it 2))) ⊎ (left < length (blob_of it)) → (¬ (IsBytesValue (column it 2))) ⊎ (size < length (joined_blobs (given ++ it ∷ [])))
     go (inl none) = inl none
-    go (inr over) = inr (more_than left (length sent) (length (joined (given ++ it ∷ []))) size (length (blob_of it)) over counted
+    go (inr over) = inr (more_than left (length sent) (length (joined_blobs (given ++ it ∷ []))) size (length (blob_of it)) over counted
         (ap length (sym (joined_more sent given it is)) ∙ length-append sent (blob_of it)))
 
 begun : {S : Type 0} (g : Ghosts S) (sql : List ℕ) (params : Row) (first now : Held S) (given : List Row) → HasGiven g sql params now given → IsUnchanged (state g first) (state g now) → Begins sql params (state g first) given
@@ -189,7 +189,7 @@ module _ {S : Type 0} {g : Ghosts S} {sql : List ℕ} {params : Row} {first : He
 
     -- the rows before this one, and it
     more : (it : Bor Row) → result ≡ Ok (Some it) → HasCleanDisk (state g new.conn.now)
-        → (given : List Row) × HasGiven g sql params old.conn.now given × IsUnchanged (state g first) (state g old.conn.now) × (was.sent ≡ joined given)
+        → (given : List Row) × HasGiven g sql params old.conn.now given × IsUnchanged (state g first) (state g old.conn.now) × (was.sent ≡ joined_blobs given)
         × HasGiven g sql params new.conn.now (given ++ it.now ∷ []) × IsUnchanged (state g first) (state g new.conn.now) × (length given ≡ count)
     more it is late =
         let x = was.shown (earlier late) in (

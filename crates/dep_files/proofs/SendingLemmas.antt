@@ -19,7 +19,7 @@ use Rattle.dep_types.specs.declared.stream_fault.StreamFault.{StreamFault}
 use Rattle.dep_types.specs.declared.stream_fault.StreamFault.TheVariants.{Writer, Store, Memory, NoSuchFile}
 use Rattle.dep_types.specs.declared.store_fault.StoreFault.{StoreFault}
 use Rattle.dep_types.specs.declared.store_fault.StoreFault.TheVariants as store
-use Rattle.dep_files.specs.Sent.{blob_of, joined, GivesSized, StopsBetween, SendsSized}
+use Rattle.dep_files.specs.Sent.{blob_of, joined_blobs, GivesSized, StopsBetween, SendsSized}
 
 -- what begins an answer begins one of the first state
 pub begins_from : (sql : List ℕ) (params : Row) (first old : State) (rows : List Row) → IsUnchanged first old → Begins sql params old rows → Begins sql params first rows
@@ -34,11 +34,11 @@ begins_from sql params first old rows same h =
       h.5,
     )
 
-pub joined_push : (given : List Row) (row : Row) → joined (given ++ row ∷ []) ≡ joined given ++ blob_of row
+pub joined_push : (given : List Row) (row : Row) → joined_blobs (given ++ row ∷ []) ≡ joined_blobs given ++ blob_of row
 joined_push [] row = append-nil (blob_of row)
-joined_push (r ∷ given) row = ap (λ more. blob_of r ++ more) (joined_push given row) ∙ sym (append_assoc (blob_of r) (joined given) (blob_of row))
+joined_push (r ∷ given) row = ap (λ more. blob_of r ++ more) (joined_push given row) ∙ sym (append_assoc (blob_of r) (joined_blobs given) (blob_of row))
 
-pub joined_more : (sent : List ℕ) (given : List Row) (row : Row) → sent ≡ joined given → sent ++ blob_of row ≡ joined (given ++ row ∷ [])
+pub joined_more : (sent : List ℕ) (given : List Row) (row : Row) → sent ≡ joined_blobs given → sent ++ blob_of row ≡ joined_blobs (given ++ row ∷ [])
 joined_more sent given row sends = ap (λ l. l ++ blob_of row) sends ∙ sym (joined_push given row)
 
 -- a plain query shows no rows of a write
@@ -51,7 +51,7 @@ stops_sized sql params old size sent store.Memory low h = (h, low)
 
 pub cut_sized : (sql : List ℕ) (params : Row) (old : State) (size : ℕ) (start held next : Option (List ℕ)) (sent : List ℕ) (row : Row) (Clean Plain : Type 0) (fault : StreamFault)
     → Appends start held sent → GivesSized held next (blob_of row) (Err fault) → length sent < size
-    → (Clean → Plain → (given : List Row) × Begins sql params old given × Begins sql params old (given ++ row ∷ []) × (sent ≡ joined given))
+    → (Clean → Plain → (given : List Row) × Begins sql params old given × Begins sql params old (given ++ row ∷ []) × (sent ≡ joined_blobs given))
     → (more : List ℕ) × Appends start next more × (Clean → Plain → SendsSized sql params old size more (Err fault))
 cut_sized sql params old size start held next sent row Clean Plain Writer before took low h = (
   sent ++ took.0,

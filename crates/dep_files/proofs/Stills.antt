@@ -20,7 +20,7 @@ use Rattle.dep_tables.specs.Schema.{our_schema}
 use Rattle.dep_tables.specs.Tables.{tables_in, tables_of, HasTablesOf, IsOurs, HasOurTables, IsKnown}
 use Rattle.dep_tables.proofs.Results.{if_ok, ok_then}
 use Rattle.dep_files.specs.Clauses.{OnlyReads, ReadsOver, ShowsNoWrite, StaysOver}
-use Rattle.dep_files.specs.Reading.{IsKept}
+use Rattle.dep_files.specs.Reading.{StaysOrRollsBack}
 
 -- ---- one query
 
@@ -99,7 +99,7 @@ still_left g old new (inr same) = still_same (state g old) (state g new) same
 pub tables_still : (a b : State) → IsStill a b → tables_of b ≡ tables_of a
 tables_still a b still = ap (λ db. tables_in db.trees) still.now_is
 
-kept_then : (a b c : State) → IsStill a b → IsKept b c → IsKept a c
+kept_then : (a b c : State) → IsStill a b → StaysOrRollsBack b c → StaysOrRollsBack a c
 kept_then a b c still kept is_open =
     let left = kept is_open in
     rolled_then a b c (still.unchanged (still.was_open (left_open b c left is_open))) left

@@ -19,7 +19,7 @@ use Rattle.dep_types.specs.declared.stream_fault.StreamFault.{StreamFault}
 use Rattle.dep_types.specs.declared.stream_fault.StreamFault.TheVariants.{Writer, Store, Memory, NoSuchFile}
 use Rattle.dep_row_maps.specs.Owned.{placed}
 use Rattle.dep_row_maps.specs.Stored.{block_seen, block_rows, part_rows, blocks_of, file_stored, is_file_of}
-use Rattle.dep_row_maps.specs.TablesAre.{TablesAre, files_at, joined}
+use Rattle.dep_row_maps.specs.TablesAre.{TablesAre, files_at, joined_parts}
 use Rattle.dep_types.specs.Names.{if_passes}
 use Rattle.dep_row_maps.proofs.Files.{free_file, number_itself}
 use Rattle.dep_row_maps.proofs.Blocks.{blocks-sorted}
@@ -41,26 +41,26 @@ use Rattle.dep_files.proofs.FileCalls.{file_is}
 
 -- ---- the blocks of a file, in order, are its content
 
-joined_both : (xs ys : List Row) → sent.joined (xs ++ ys) ≡ sent.joined xs ++ sent.joined ys
+joined_both : (xs ys : List Row) → sent.joined_blobs (xs ++ ys) ≡ sent.joined_blobs xs ++ sent.joined_blobs ys
 joined_both [] ys = refl
-joined_both (x ∷ xs) ys = ap (λ l. blob_of x ++ l) (joined_both xs ys) ∙ sym (append_assoc (blob_of x) (sent.joined xs) (sent.joined ys))
+joined_both (x ∷ xs) ys = ap (λ l. blob_of x ++ l) (joined_both xs ys) ∙ sym (append_assoc (blob_of x) (sent.joined_blobs xs) (sent.joined_blobs ys))
 
-placed_joined : (part k : ℕ) (bs : List (List ℕ)) → sent.joined (placed (block_seen part) k bs) ≡ flat_map (λ b. b) bs
+placed_joined : (part k : ℕ) (bs : List (List ℕ)) → sent.joined_blobs (placed (block_seen part) k bs) ≡ flat_map (λ b. b) bs
 placed_joined part k [] = refl
 placed_joined part k (b ∷ bs) = ap (λ l. b ++ l) (placed_joined part (k + 1) bs)
 
-pub parts_joined : (m : Numbered (List ℕ)) → sent.joined (block_rows m) ≡ joined m
+pub parts_joined : (m : Numbered (List ℕ)) → sent.joined_blobs (block_rows m) ≡ joined_parts m
 parts_joined m = go (finmap.entries m)
   where
-    go : (es : List (ℕ × List ℕ)) → sent.joined (flat_map (λ e. part_rows e.0 e.1) es) ≡ flat_map (λ e. e.1) es
+    go : (es : List (ℕ × List ℕ)) → sent.joined_blobs (flat_map (λ e. part_rows e.0 e.1) es) ≡ flat_map (λ e. e.1) es
     go [] = refl
     go (e ∷ es) = joined_both (part_rows e.0 e.1) (flat_map (λ x. part_rows x.0 x.1) es)
-        ∙ ap (λ l. l ++ sent.joined (flat_map (λ x. part_rows x.0 x.1) es)) (placed_joined e.0 0 (blocks_of e.1) ∙ blocks_join e.1) ∙ ap (λ l. e.1 ++ l) (go es)
+        ∙ ap (λ l. l ++ sent.joined_blobs (flat_map (λ x. part_rows x.0 x.1) es)) (placed_joined e.0 0 (blocks_of e.1) ∙ blocks_join e.1) ∙ ap (λ l. e.1 ++ l) (go es)
 
 begun : (t : Tables) (s : State) (n f : ℕ) (file : File) (bytes : List ℕ) → TablesAre t s → file_at s n f ≡ Some file → (b : BeginsBlocks (filter (is_block_of (owner.File f)) t.blocks) bytes) → file.content ≡ bytes ++ b.rest
 begun t s n f file bytes h has b =
     sym ((h.common.files_parts.of_files n f file (file_is s n f ∙ has)).joins) ∙ sym (parts_joined (h.common.parts (owner.File f)))
-    ∙ ap sent.joined (sym (blocks-sorted t.blocks h.common.parts h.common.blocks (owner.File f) b.all b.ordered.same b.ordered.sorted)) ∙ b.whole
+    ∙ ap sent.joined_blobs (sym (blocks-sorted t.blocks h.common.parts h.common.blocks (owner.File f) b.all b.ordered.same b.ordered.sorted)) ∙ b.whole
 
 -- ---- the size of a file
 

@@ -15,19 +15,19 @@ use Rattle.dep_row_maps.specs.Sha512s.{upgraded, AreOfContents}
 use Rattle.dep_row_maps.proofs.Blocks.{blocks-sorted}
 use Rattle.dep_row_maps.proofs.Upgraded.{tables_upgraded}
 use Rattle.dep_files.specs.Sent as sent
-use Rattle.dep_files.specs.Sha512s.{HasValue, AreValuesOf}
+use Rattle.dep_files.specs.Sha512s.{IsSha512OfFile, AreValuesOf}
 use Rattle.dep_files.proofs.Streams.{parts_joined}
 
 module _ (t : Tables) (s : State) (h : OlderTablesAre t s) where
   -- the value of a file's blocks is that of its content
-  of_content : (v : FileSha512) → HasValue t v → (n : ℕ) (file : File) → finmap.get (files_at s.objects n) v.file ≡ Some file → v.value ≡ sha512 file.content
+  of_content : (v : FileSha512) → IsSha512OfFile t v → (n : ℕ) (file : File) → finmap.get (files_at s.objects n) v.file ≡ Some file → v.value ≡ sha512 file.content
   of_content v (digests, its, is) n file there =
       is ∙ ap (λ (d : Digests). d.sha512) its.are
-      ∙ ap sha512 (ap sent.joined (blocks-sorted t.blocks h.common.parts h.common.blocks (owner.File v.file) its.rows its.ordered.same its.ordered.sorted)
+      ∙ ap sha512 (ap sent.joined_blobs (blocks-sorted t.blocks h.common.parts h.common.blocks (owner.File v.file) its.rows its.ordered.same its.ordered.sorted)
       ∙ parts_joined (h.common.parts (owner.File v.file)) ∙ (h.common.files_parts.of_files n v.file file there).joins)
 
   pub of_contents : (values : List FileSha512) → AreValuesOf t values → AreOfContents s.objects values
-  of_contents values are = all_weaker (HasValue t) _ of_content values are.each
+  of_contents values are = all_weaker (IsSha512OfFile t) _ of_content values are.each
 
   pub stand_upgraded : IsSound s → IsOrdered t.files → (values : List FileSha512) → AreValuesOf t values → TablesAre (upgraded values t) s
   stand_upgraded sound up values are = tables_upgraded t s h sound up values are.numbered (of_contents values are)

@@ -10,7 +10,7 @@ use Rattle.sqlite.specs.State.{State}
 use Rattle.dep_tables.specs.Tables.{Tables, tables_of, IsKnown}
 use Rattle.dep_files.proofs.Stills.{IsStill, known_still, tables_still}
 use Rattle.dep_tables.specs.declared.sha512s.FileSha512.{FileSha512}
-use Rattle.dep_files.specs.Sha512s.{HasValue, IsValueAfter, AreValuesOf, IsReached}
+use Rattle.dep_files.specs.Sha512s.{IsSha512OfFile, IsValueAfter, AreValuesOf, IsReached}
 use Rattle.dep_files.proofs.Walks.{found_after, found_there, next_row, no_row, none_found, row_found}
 
 abbrev key : FileSha512 → Value
@@ -20,7 +20,7 @@ key v = Int (pos v.file)
 -- numbers up to it.
 pub record AreValuesTo (t : Tables) (values : List FileSha512) (last count : ℕ) : Type 0 where
   pub numbered : map key values ++ map rowid (filter (is_after last) t.files) ≡ map rowid (filter (is_after 0) t.files)
-  pub each : AllByRecursion (HasValue t) values
+  pub each : AllByRecursion (IsSha512OfFile t) values
   pub reached : IsReached t last
   pub few : count ≤ last
 
@@ -44,7 +44,7 @@ one_more t values last count v up so_far next =
           ∙ ap (λ x. map key values ++ x ∷ map rowid (filter (is_after v.file) t.files)) (sym is)
           ∙ ap (λ l. map key values ++ map rowid l) (sym (next_row last v.file row t.files up.0 found is))
           ∙ so_far.numbered;
-      each = all_more (HasValue t) values v so_far.each next.1;
+      each = all_more (IsSha512OfFile t) values v so_far.each next.1;
       reached = inr (row, (found_there (is_after last) row t.files found).1, is);
       few = one_less count last v.file so_far.few (found_after last v.file row t.files found is);
     }

@@ -21,7 +21,7 @@ use Rattle.dep_types.specs.declared.stream_fault.StreamFault.{StreamFault}
 use Rattle.dep_files.specs.Faults.{IsStoppedBy, IsStreamStoppedBy}
 use Rattle.dep_files.specs.Fixity.{HasFixity, number_if_damaged, sha256_rows}
 use Rattle.dep_files.specs.Sha512s.{next_file_text, IsFileAfter, IsReached, IsValueAfter}
-use Rattle.dep_files.specs.Sent.{joined}
+use Rattle.dep_files.specs.Sent.{joined_blobs}
 use Rattle.dep_files.specs.Sizes.{IsSizeRow, find_size_text, size_values, shown_size}
 use Rattle.dep_files.specs.declared.auditing.FileFixity.{FileFixity}
 use Rattle.dep_files.specs.declared.sizes.FileSize.{FileSize}
@@ -33,12 +33,12 @@ pub data FailsToGive (sql : List ℕ) (params : Row) (size : Option ℕ) (old ne
   query_failed : FailsToAsk sql params old new fault → FailsToGive sql params size old new fault
   -- its rows have fewer bytes
   too_few : (rows : List Row) → Shown sql params old old rows
-      → IsSomeAnd size (λ n. length (joined rows) < n) → fault ≡ Store
+      → IsSomeAnd size (λ n. length (joined_blobs rows) < n) → fault ≡ Store
       → FailsToGive sql params size old new fault
   -- a row has no bytes, or more than are left
   unread : (given : List Row) (next : Row) → Begins sql params old (given ++ next ∷ [])
       → (¬ (IsBytesValue (column next 2)))
-      ⊎ IsSomeAnd size (λ n. n < length (joined (given ++ next ∷ []))) → fault ≡ Store
+      ⊎ IsSomeAnd size (λ n. n < length (joined_blobs (given ++ next ∷ []))) → fault ≡ Store
       → FailsToGive sql params size old new fault
   -- there are more rows than are counted
   uncounted : (given : List Row) → Begins sql params old given → 2 ^ 64 - 1 ≤ length given

@@ -13,7 +13,7 @@ use Rattle.sqlite_resolve.specs.declared.error.CompileError.{CompileError}
 use Rattle.dep_types.specs.declared.store_fault.StoreFault.{StoreFault}
 use Rattle.dep_tables.specs.Clauses.{IsPlainIn}
 use Rattle.dep_tables.specs.Tables.{Tables, tables_of}
-use Rattle.dep_files.specs.Reading.{IsKept}
+use Rattle.dep_files.specs.Reading.{StaysOrRollsBack}
 
 -- the text is a query that only shows, by the schema that is seen
 abbrev pub OnlyShows : List ℕ → State → Type 0
@@ -39,7 +39,7 @@ module _ {S : Type 0} (g : Ghosts S) (old new : Held S) where
     pub mode : (state g old).in_transaction ≡ false → (state g new).in_transaction ≡ false
     -- Nothing is changed, but that a failure may end a transaction as it began; and a crash leaves nothing that it did
     -- not leave before.
-    pub kept : HasCleanDisk (state g new) → IsKept (state g old) (state g new)
+    pub kept : HasCleanDisk (state g new) → StaysOrRollsBack (state g old) (state g new)
     pub survives : Survives (state g old) (state g new) (λ _. ⊥)
 
 module _ {S A E : Type 0} (g : Ghosts S) (old new : Held S) (result : Result A E) where

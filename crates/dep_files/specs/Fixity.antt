@@ -9,7 +9,7 @@ use Rattle.dep_fixity.specs.Fixity.{digests_of}
 use Rattle.dep_fixity.specs.declared.hasher.Digests.{Digests}
 use Rattle.dep_manifest.specs.Damaged.{number_unless_kept}
 use Rattle.dep_statements.specs.Rows.{InOrder, has_number}
-use Rattle.dep_files.specs.Sent.{joined}
+use Rattle.dep_files.specs.Sent.{joined_blobs}
 use Rattle.dep_tables.specs.Rows.{IsDigestValue, shown_block, shown_sha256, is_block_of, is_sha512_of, value_in, by_part_and_place}
 use Rattle.dep_tables.specs.Tables.{Tables}
 use Rattle.dep_tables.specs.declared.owner.BlockOwner.{BlockOwner}
@@ -21,13 +21,13 @@ use Rattle.dep_files.specs.declared.auditing.FileFixity.{FileFixity}
 pub record HashesShown (sql : List ℕ) (params : Row) (now : State) (digests : Digests) : Type 0 where
   pub rows : List Row
   pub shown : Shown sql params now now rows
-  pub are : digests ≡ digests_of (joined rows)
+  pub are : digests ≡ digests_of (joined_blobs rows)
 
 -- the digests of an owner's blocks, joined by part and place
 pub record AreDigestsOf (t : Tables) (o : BlockOwner) (digests : Digests) : Type 0 where
   pub rows : List Row
   pub ordered : InOrder by_part_and_place (map shown_block (filter (is_block_of o) t.blocks)) rows
-  pub are : digests ≡ digests_of (joined rows)
+  pub are : digests ≡ digests_of (joined_blobs rows)
 
 -- The one value that is kept is this digest. None is read where there is no value, or one that isn't a digest of so many
 -- bytes, as of a row that somebody damaged.

@@ -8,8 +8,8 @@ use Rattle.dep_tables.specs.Tables.{Tables}
 
 -- Outside a transaction, where the store is open, all is as it was. Inside one a failure may have
 -- ended it as it began.
-abbrev pub IsKept : (old new : db.State) → Type 0
-IsKept old new = IsTrue new.is_open → db.IsUnchanged old new ⊎ db.IsRolledBack old new
+abbrev pub StaysOrRollsBack : (old new : db.State) → Type 0
+StaysOrRollsBack old new = IsTrue new.is_open → db.IsUnchanged old new ⊎ db.IsRolledBack old new
 
 -- the content, or nothing where no object has the file
 abbrev pub IsLoaded : State → ℕ → Option (List ℕ) → Type 0

@@ -26,15 +26,15 @@ abbrev pub blob_of : Row → List ℕ
 blob_of row = blob_in (column row 2)
 
 -- the bytes of the rows, in turn
-abbrev pub joined : List Row → List ℕ
-joined [] = []
-joined (row ∷ rows) = blob_of row ++ joined rows
+abbrev pub joined_blobs : List Row → List ℕ
+joined_blobs [] = []
+joined_blobs (row ∷ rows) = blob_of row ++ joined_blobs rows
 
 -- these are the first rows that the query shows, all of whose bytes were sent
 pub record StopsBetween (sql : List ℕ) (params : Row) (old : State) (sent : List ℕ) : Type 0 where
   pub given : List Row
   pub begins : (given ≡ []) ⊎ Begins sql params old given
-  pub sends : sent ≡ joined given
+  pub sends : sent ≡ joined_blobs given
 
 -- these are the first rows that the query shows; of the last of them a proper prefix was sent
 pub record StopsWithin (sql : List ℕ) (params : Row) (old : State) (sent : List ℕ) : Type 0 where
@@ -43,7 +43,7 @@ pub record StopsWithin (sql : List ℕ) (params : Row) (old : State) (sent : Lis
   pub part : List ℕ
   pub begins : Begins sql params old (given ++ row ∷ [])
   pub short : IsProperPrefix part (blob_of row)
-  pub sends : sent ≡ joined given ++ part
+  pub sends : sent ≡ joined_blobs given ++ part
 
 -- what the outlet took of the bytes of one row, and how many they are
 abbrev pub GivesSized : Option (List ℕ) → Option (List ℕ) → List ℕ → Result ℕ StreamFault → Type 0
@@ -69,7 +69,7 @@ pub record BeginsBlocks (stored : List Row) (sent : List ℕ) : Type 0 where
   pub all : List Row
   pub ordered : InOrder by_part_and_place (map shown_block stored) all
   pub rest : List ℕ
-  pub whole : joined all ≡ sent ++ rest
+  pub whole : joined_blobs all ≡ sent ++ rest
 
 -- So many bytes of the blocks, by part and place; fewer where the store failed, and where the outlet failed
 -- the first bytes and not all.

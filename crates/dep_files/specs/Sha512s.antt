@@ -21,19 +21,19 @@ IsFileAfter t after found =
     option_map (λ n. Int (pos n)) found ≡ option_map rowid (find (is_after after) t.files)
 
 -- it is the SHA-512 of the file's blocks
-abbrev pub HasValue : Tables → FileSha512 → Type 0
-HasValue t v =
+abbrev pub IsSha512OfFile : Tables → FileSha512 → Type 0
+IsSha512OfFile t v =
     (digests : Digests) × AreDigestsOf t (owner.File v.file) digests × (v.value ≡ digests.sha512)
 
 -- the next file behind a number, with its value
 abbrev pub IsValueAfter : Tables → ℕ → Option FileSha512 → Type 0
 IsValueAfter t after found =
-    IsFileAfter t after (option_map (λ v. v.file) found) × IfSome found (HasValue t)
+    IsFileAfter t after (option_map (λ v. v.file) found) × IfSome found (IsSha512OfFile t)
 
 -- each file with a number above 0 has its value, in the order of their numbers
 pub record AreValuesOf (t : Tables) (values : List FileSha512) : Type 0 where
   pub numbered : AreNumbered t values
-  pub each : AllByRecursion (HasValue t) values
+  pub each : AllByRecursion (IsSha512OfFile t) values
 
 -- it is 0, or the number of a file
 abbrev pub IsReached : Tables → ℕ → Type 0

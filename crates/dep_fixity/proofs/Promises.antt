@@ -7,7 +7,7 @@ use Rattle.std.proofs.lemmas.List.Folds.{list_all-append}
 use Rattle.std.proofs.lemmas.Slice.Eq.{bytes_eq-Decides}
 use Rattle.std.specs.List.{list_all, filter_map}
 use Rattle.std.specs.Str.{str_eq_ignore_ascii_case}
-use Rattle.dep_fixity.specs.Fixity.{is_just, one_digest, joined, digest_under, octets_of, value_under, name_and_value, spelled_under}
+use Rattle.dep_fixity.specs.Fixity.{is_just, one_digest, joined_digest, digest_under, octets_of, value_under, name_and_value, spelled_under}
 
 -- the digest that is there, where all the rest spell it
 when_all : (digest : List ℕ) (all : Bool) (before : Option (List ℕ))
@@ -15,12 +15,12 @@ when_all : (digest : List ℕ) (all : Bool) (before : Option (List ℕ))
 when_all digest true before h = (refl, cc h)
 when_all digest false before h = cc h
 
-joined_first : (before : Option (List ℕ)) (digest : List ℕ) → Some None ≡ Some before → joined before (Some digest) ≡ Some digest
+joined_first : (before : Option (List ℕ)) (digest : List ℕ) → Some None ≡ Some before → joined_digest before (Some digest) ≡ Some digest
 joined_first None digest h = refl
 joined_first (Some other) digest h = cc h
 
 -- a digest that is joined to another is the same
-joined_same : (other : List ℕ) (value : Option (List ℕ)) (kept : List ℕ) → joined (Some other) value ≡ Some kept → (is_just other value ≡ true) × (kept ≡ other)
+joined_same : (other : List ℕ) (value : Option (List ℕ)) (kept : List ℕ) → joined_digest (Some other) value ≡ Some kept → (is_just other value ≡ true) × (kept ≡ other)
 joined_same other None kept h = cc h
 joined_same other (Some digest) kept h = elim (cases_Bool (bytes_eq other digest)) [
   | inl same ↦
@@ -30,7 +30,7 @@ joined_same other (Some digest) kept h = elim (cases_Bool (bytes_eq other digest
   | inr not_same ↦ let is = rw not_same at h in cc is
 ]
 
-joined_other : (other : List ℕ) (value : Option (List ℕ)) → joined (Some other) value ≡ None → is_just other value ≡ false
+joined_other : (other : List ℕ) (value : Option (List ℕ)) → joined_digest (Some other) value ≡ None → is_just other value ≡ false
 joined_other other None h = refl
 joined_other other (Some digest) h = elim (cases_Bool (bytes_eq other digest)) [
   | inl same ↦ let is = rw same at h in cc is
@@ -38,7 +38,7 @@ joined_other other (Some digest) h = elim (cases_Bool (bytes_eq other digest)) [
 ]
 
 pub one_digest-more : (values : List (Option (List ℕ))) (before value : Option (List ℕ)) (kept : List ℕ)
-    → one_digest values ≡ Some before → joined before value ≡ Some kept → one_digest (values ++ value ∷ []) ≡ Some (Some kept)
+    → one_digest values ≡ Some before → joined_digest before value ≡ Some kept → one_digest (values ++ value ∷ []) ≡ Some (Some kept)
 one_digest-more [] before None kept h j = cc j
 one_digest-more [] before (Some digest) kept h j =
     let first = joined_first before digest h in
@@ -53,7 +53,7 @@ one_digest-more (Some digest ∷ more) before value kept h j =
     rw (every, step.1) refl
 
 pub one_digest-bad : (values more : List (Option (List ℕ))) (before value : Option (List ℕ))
-    → one_digest values ≡ Some before → joined before value ≡ None → one_digest (values ++ value ∷ more) ≡ None
+    → one_digest values ≡ Some before → joined_digest before value ≡ None → one_digest (values ++ value ∷ more) ≡ None
 one_digest-bad [] more before None h j = refl
 one_digest-bad [] more before (Some digest) h j = let first = joined_first before digest h in cc (first, j)
 one_digest-bad (None ∷ values) more before value h j = refl
@@ -85,7 +85,7 @@ spelled_under-other n name done member rest h =
 
 pub digest_under-bad : (n : ℕ) (name : List ℕ) (done : List (List ℕ)) (member : List ℕ) (rest : List (List ℕ)) (before : Option (List ℕ)) (value : List ℕ)
     → one_digest (spelled_under n name done) ≡ Some before → value_under name member ≡ Some value
-    → joined before (octets_of n value) ≡ None → digest_under n name (done ++ member ∷ rest) ≡ None
+    → joined_digest before (octets_of n value) ≡ None → digest_under n name (done ++ member ∷ rest) ≡ None
 digest_under-bad n name done member rest before value h is j =
     let bad : one_digest (spelled_under n name (done ++ member ∷ rest)) ≡ None =
     ap one_digest (spelled_under-next n name done member rest value is)

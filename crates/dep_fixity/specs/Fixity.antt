@@ -87,10 +87,10 @@ abbrev pub promises : DigestList → Bool
 promises promised = is_some promised.sha256 || is_some promised.sha512
 
 -- a digest, unless another one was promised before
-abbrev pub joined : Option (List ℕ) → Option (List ℕ) → Option (List ℕ)
-joined before None = None
-joined None (Some digest) = Some digest
-joined (Some other) (Some digest) = if bytes_eq other digest then Some digest else None
+abbrev pub joined_digest : Option (List ℕ) → Option (List ℕ) → Option (List ℕ)
+joined_digest before None = None
+joined_digest None (Some digest) = Some digest
+joined_digest (Some other) (Some digest) = if bytes_eq other digest then Some digest else None
 
 -- whether a digest is the one that is promised, if one is
 abbrev pub is_kept : Option (List ℕ) → List ℕ → Bool

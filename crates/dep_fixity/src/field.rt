@@ -3,8 +3,8 @@ ghost use Rattle.std.specs.Prelude.{◌≡◌, ◌==◌, MatchOption, position};
 ghost use Rattle.std.specs.Result.{result_ok};
 ghost use Rattle.std.specs.Str.{str_eq_ignore_ascii_case};
 ghost use Rattle.dep_octets.specs.Octets.{members};
-ghost use Rattle.dep_fixity.specs.Fixity.{digest_field, digest_under, is_kept, joined, keeps, name_and_value, octets_of};
-ghost use Rattle.dep_fixity.specs.Faults.{fault_number};
+ghost use Rattle.dep_fixity.specs.Fixity.{digest_field, digest_under, is_kept, joined_digest, keeps, name_and_value, octets_of};
+ghost use Rattle.dep_fixity.specs.Faults.{digest_fault_number};
 
 use crate::hasher::Digests;
 use crate::spelling::read_digest;
@@ -53,7 +53,7 @@ pub enum DigestFault {
 impl DigestFault {
     /// The number of the fault: always 1.
     pub fn number(self) -> u8
-        ensures { result ≡ fault_number self }
+        ensures { result ≡ digest_fault_number self }
     {
         match self {
             DigestFault::Unreadable => 1,
@@ -124,7 +124,7 @@ fn read_promise<const N: usize>(
 
 // The digest that the value spells, unless another one was promised before.
 fn promised_again<const N: usize>(before: Option<[u8; N]>, value: &[u8]) -> Option<[u8; N]>
-    ensures { result ≡ joined before.entry (octets_of N value.now) }
+    ensures { result ≡ joined_digest before.entry (octets_of N value.now) }
 {
     let digest = read_digest(value)?;
     match before {

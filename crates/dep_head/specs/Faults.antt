@@ -4,6 +4,6 @@ use Rattle.dep_head.specs.declared.head.HeadFault.{HeadFault}
 use Rattle.dep_head.specs.declared.head.HeadFault.TheVariants.{NotAHead, Memory}
 
 -- the number of each failure to read a head, 1 or 2
-abbrev pub fault_number : HeadFault → ℕ
-fault_number NotAHead = 1
-fault_number Memory = 2
+abbrev pub head_fault_number : HeadFault → ℕ
+head_fault_number NotAHead = 1
+head_fault_number Memory = 2

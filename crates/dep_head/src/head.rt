@@ -5,7 +5,7 @@ ghost use Rattle.http_uri.specs.Uri.{Spells, uri_path};
 ghost use Rattle.http_uri.specs.declared.uri.Uri.{Uri};
 ghost use Rattle.dep_head.specs.Head.{HeadParts, IsHeadText, IsHeadOfAnyTarget, IsHostCount, values_of};
 ghost use Rattle.dep_head.specs.Spans.{fields_at, AreWithin};
-ghost use Rattle.dep_head.specs.Faults.{fault_number};
+ghost use Rattle.dep_head.specs.Faults.{head_fault_number};
 
 use crate::end::{HEAD_LIMIT, find_end};
 use crate::fields::{Values, values_in};
@@ -29,7 +29,7 @@ pub enum HeadFault {
 impl HeadFault {
     /// The number of the fault: 1 or 2.
     pub fn number(self) -> u8
-        ensures { result ≡ fault_number self }
+        ensures { result ≡ head_fault_number self }
     {
         match self {
             HeadFault::NotAHead => 1,

@@ -7,7 +7,7 @@ use Rattle.dep_outbox.specs.Wires.{reported}
 use Rattle.dep_slot.specs.declared.slot.Time.{Time}
 use Rattle.dep_host.specs.Hosting.{note_of, closings_of, HostAction, answers_at, pieces_at, sending_at, sendings_at, sendings_in, AreDoneAt}
 use Rattle.std.proofs.lemmas.Grind.{flat_map-append}
-use Rattle.dep_slot.specs.Notes.{Note, Grows}
+use Rattle.dep_slot.specs.Notes.{Note, GrowsWhereShown}
 use Rattle.dep_host.proofs.HostLemmas.{grows_on}
 
 pub answers_append : (place : ℕ) (xs ys : List HostAction) → answers_at place (xs ++ ys) ≡ answers_at place xs + answers_at place ys
@@ -42,8 +42,8 @@ in_time_append time [] ys h k = k
 in_time_append time (d ∷ xs) ys h k = (h.0, in_time_append time xs ys h.1 k)
 
 -- the log was told of the one stretch and then of the other
-pub noted_on : (reported so_far reports : Option (List Note)) (xs ys : List HostAction) → Grows reported so_far (closings_of xs) → Grows so_far reports (closings_of ys) → Grows reported reports (closings_of (xs ++ ys))
-noted_on reported so_far reports xs ys g h = subst (λ (l : List Note). Grows reported reports l) (sym (flat_map-append note_of xs ys)) (grows_on reported so_far reports (closings_of xs) (closings_of ys) g h)
+pub noted_on : (reported so_far reports : Option (List Note)) (xs ys : List HostAction) → GrowsWhereShown reported so_far (closings_of xs) → GrowsWhereShown so_far reports (closings_of ys) → GrowsWhereShown reported reports (closings_of (xs ++ ys))
+noted_on reported so_far reports xs ys g h = subst (λ (l : List Note). GrowsWhereShown reported reports l) (sym (flat_map-append note_of xs ys)) (grows_on reported so_far reports (closings_of xs) (closings_of ys) g h)
 
 pub one_at_most : (b : Bool) → (if b then 1 else 0) + 0 ≤ 1
 one_at_most true = omega arith

@@ -19,7 +19,7 @@ use Rattle.dep_hub.proofs.SourceLemmas.{kept_sends, unawaited_unsent}
 use Rattle.dep_slot.specs.Slots.{SameBehind}
 use Rattle.dep_host.specs.Hosting.{Position, HostAction, Step, refused, asks, comes, rests, offers, delays, sends, refuses, answers, leaves, Steps, begins, goes_on}
 use Rattle.dep_host.specs.Laws.{StepsAwaiting, waits_first, waits_on}
-use Rattle.dep_host.specs.Runs.{replies_of}
+use Rattle.dep_host.specs.Runs.{reply_count}
 use Rattle.dep_host.proofs.CloseLemmas.{clean_before}
 use Rattle.dep_host.proofs.OweLemmas.{replies_join}
 
@@ -28,7 +28,7 @@ module _ {A R K S : Type 0} (condition : A → Condition) (unread : R → Option
   -- a content of these files is sent to a connection that was sent one before, and of which no item was answered
   abbrev pub SentBefore : Position A R K S → List HostAction → Files → (number : ℕ) → Type 0
   SentBefore p actions files number =
-      (sends_of files (behind_at p.hub.connections.items number) ≡ true) × (replies_of number actions ≡ 0)
+      (sends_of files (behind_at p.hub.connections.items number) ≡ true) × (reply_count number actions ≡ 0)
 
   same_before : (old new : Hub A) (files : Files) (k : ℕ) → behind_at new.connections.items k ≡ behind_at old.connections.items k
       → sends_of files (behind_at new.connections.items k) ≡ true → sends_of files (behind_at old.connections.items k) ≡ true

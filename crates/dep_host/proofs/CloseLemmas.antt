@@ -9,7 +9,7 @@ use Rattle.dep_hub.specs.Representing.{IsClean, ServesAs}
 use Rattle.dep_hub.specs.declared.hub.Hub.{Hub}
 use Rattle.dep_slot.specs.declared.slot.Slot.{Slot}
 use Rattle.dep_slot.specs.declared.log.Closing.{Closing}
-use Rattle.dep_host.specs.Hosting.{Position, slot_at, HostAction, Opens, Takes, Replies, Sends, Declines, Closes, Step, refused, asks, comes, rests, offers, delays, sends, refuses, answers, leaves, Steps, begins, goes_on, GoesOn}
+use Rattle.dep_host.specs.Hosting.{Position, slot_at, HostAction, Opens, Takes, Replies, Sends, Declines, Closes, Step, refused, asks, comes, rests, offers, delays, sends, refuses, answers, leaves, Steps, begins, goes_on, LeadsTo}
 use Rattle.dep_slot.specs.Slots.{HubStays}
 use Rattle.dep_host.specs.Runs.{KeepsPromise, OwesNone, Promises}
 
@@ -124,7 +124,7 @@ module _ {A R K S : Type 0} (condition : A → Condition) (unread : R → Option
   -- a host that goes on keeps its promise, where that holds of each stretch
   pub promised : (keeps : (p q : Position A R K S) (actions : List HostAction) (first : State) (before : List Record) → ((at : ℕ) → slot_at at p.slots ≡ None)
       → OwesNone p.hub → RepresentsHoldingAfter condition p.hub first before (λ n. []) → Steps condition unread taken held p actions q → IsClean condition q.hub → KeepsPromise condition unread taken held q first before actions)
-      → (p q : Position A R K S) → GoesOn condition unread taken held p q → Promises condition unread taken held p q
+      → (p q : Position A R K S) → LeadsTo condition unread taken held p q → Promises condition unread taken held p q
   promised keeps p q goes = λ first before empty unowed represents clean. (
     goes.0,
     (

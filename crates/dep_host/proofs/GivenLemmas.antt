@@ -7,7 +7,7 @@ use Rattle.std.specs.Io.KnownBytes.{Keeps, Consumes}
 use Rattle.dep_types.specs.Conditions.{Condition}
 use Rattle.dep_slot.specs.declared.slot.Slot.{Slot}
 use Rattle.dep_slot.specs.ConnectionStates.{is_ended}
-use Rattle.dep_host.specs.Hosting.{Position, slot_at, HostAction, Opens, Takes, Replies, Sends, Declines, Closes, Reports, Step, refused, asks, comes, rests, offers, delays, sends, refuses, answers, leaves, HasTurn, Steps, begins, goes_on}
+use Rattle.dep_host.specs.Hosting.{Position, slot_at, HostAction, Opens, Takes, Replies, Sends, Declines, Closes, AreShown, Step, refused, asks, comes, rests, offers, delays, sends, refuses, answers, leaves, HasTurn, Steps, begins, goes_on}
 use Rattle.dep_host.specs.Runs.{read_by, read_of, given_by, given_of, IsGiven}
 use Rattle.dep_host.proofs.ReadLemmas.{read_append}
 use Rattle.dep_host.proofs.ReportLemmas.{Tidy, steps_tidy, slot_set, some_same, no_some, reported_keeps}
@@ -17,12 +17,12 @@ given_append : (n : ℕ) (xs ys : List HostAction) → given_of n (xs ++ ys) ≡
 given_append n xs ys = flat_map-append (λ d. given_by n d) xs ys
 
 -- a source had the bytes that it gave and, behind them, what it has left
-consumed : (a b : Option (List ℕ)) (rest piece : List ℕ) → Consumes a b piece → Reports b → a ≡ Some rest → (after : List ℕ) × ((b ≡ Some after) × (rest ≡ piece ++ after))
+consumed : (a b : Option (List ℕ)) (rest piece : List ℕ) → Consumes a b piece → AreShown b → a ≡ Some rest → (after : List ℕ) × ((b ≡ Some after) × (rest ≡ piece ++ after))
 consumed None b rest piece c t e = absurd (no_some rest e)
 consumed (Some x) None rest piece c t e = absurd t
 consumed (Some x) (Some y) rest piece c t e = (y, (refl, sym (some_same x rest e) ∙ c))
 
-reports_some : (a : Option (List ℕ)) → Reports a → (bytes : List ℕ) × (a ≡ Some bytes)
+reports_some : (a : Option (List ℕ)) → AreShown a → (bytes : List ℕ) × (a ≡ Some bytes)
 reports_some None t = absurd t
 reports_some (Some x) t = (x, refl)
 
@@ -40,7 +40,7 @@ same_given n actions more e = given_append n actions more ∙ (ap (λ l. given_o
 same_read : (n : ℕ) (actions more : List HostAction) → read_of n more ≡ [] → read_of n (actions ++ more) ≡ read_of n actions
 same_read n actions more e = read_append n actions more ∙ (ap (λ l. read_of n actions ++ l) e ∙ append-nil (read_of n actions))
 
-module _ {A R K S : Type 0} (condition : A → Condition) (unread : R → Option (List ℕ)) (taken : K → Option (List ℕ)) (held : S → Option (List ℕ)) (gives : (r : R) → Reports (unread r)) where
+module _ {A R K S : Type 0} (condition : A → Condition) (unread : R → Option (List ℕ)) (taken : K → Option (List ℕ)) (held : S → Option (List ℕ)) (gives : (r : R) → AreShown (unread r)) where
   record Given (q : Position A R K S) (actions : List HostAction) : Type 0 where
     given : (at : ℕ) (slot : Slot R K S) → slot_at at q.slots ≡ Some slot → IsGiven unread actions slot
     unopened : (n : ℕ) → q.hub.next ≤ n → IsOfOthers n actions

@@ -28,23 +28,23 @@ use Rattle.dep_host.specs.declared.host.Host.{Host}
 use Rattle.dep_slot.specs.declared.log.Closing.{Closing}
 use Rattle.dep_slot.specs.declared.log.Closing.TheVariants.{Large}
 use Rattle.dep_slot.specs.declared.connection_state.Phase.TheVariants.{Open}
-use Rattle.dep_slot.specs.Notes.{Note, Grows}
+use Rattle.dep_slot.specs.Notes.{Note, GrowsWhereShown}
 use Rattle.dep_slot.specs.Slots.{SameBehind, SameClient}
 use Rattle.dep_host.specs.Hosting.{Position, slot_at, farewell, MayGo, Stays, HostAction, Closes, unfinished_of, unfinished_in, Goes, IsRightlyReported, Asks, Refused, Step, refused, asks, rests, Steps, begins, goes_on, EvictsLargest}
 
 -- what a log is told
-pub grows_none : {X : Type 0} (reported : Option (List X)) → Grows reported reported []
+pub grows_none : {X : Type 0} (reported : Option (List X)) → GrowsWhereShown reported reported []
 grows_none None = tt
 grows_none (Some xs) = sym (append-nil xs)
 
-pub grows_on : {X : Type 0} (old mid new : Option (List X)) (xs ys : List X) → Grows old mid xs → Grows mid new ys → Grows old new (xs ++ ys)
+pub grows_on : {X : Type 0} (old mid new : Option (List X)) (xs ys : List X) → GrowsWhereShown old mid xs → GrowsWhereShown mid new ys → GrowsWhereShown old new (xs ++ ys)
 grows_on None mid new xs ys g h = tt
 grows_on (Some o) None new xs ys g h = absurd g
 grows_on (Some o) (Some m) None xs ys g h = absurd h
 grows_on (Some o) (Some m) (Some n) xs ys g h = h ∙ (ap (λ l. l ++ ys) g ∙ append_assoc o xs ys)
 
-pub grows_same : {X : Type 0} (reported reports : Option (List X)) → reports ≡ reported → Grows reported reports []
-grows_same {X = X} reported reports same = subst (λ (o : Option (List X)). Grows reported o []) (sym same) (grows_none reported)
+pub grows_same : {X : Type 0} (reported reports : Option (List X)) → reports ≡ reported → GrowsWhereShown reported reports []
+grows_same {X = X} reported reports same = subst (λ (o : Option (List X)). GrowsWhereShown reported o []) (sym same) (grows_none reported)
 
 -- nobody is busy where neither is
 pub neither : (a b : Bool) → (a || b) ≡ false → (a ≡ false) × (b ≡ false)
@@ -310,6 +310,6 @@ module _ {A R K S : Type 0} (condition : A → Condition) (unread : R → Option
 
   -- the largest was closed
   pub evict_one : (p q : Position A R K S) (at second : ℕ) (reported reports : Option (List Note)) (x : Option (Slot R K S)) → slot_at at p.slots ≡ x → IsSomeAnd x (λ slot. slot.state.phase ≡ Open)
-      → IfSome x (Goes condition unread taken held p q at second Large) → Grows reported reports (farewell Large x) → (actions : List HostAction) × EvictsLargest condition unread taken held p q second actions reported reports
+      → IfSome x (Goes condition unread taken held p q at second Large) → GrowsWhereShown reported reports (farewell Large x) → (actions : List HostAction) × EvictsLargest condition unread taken held p q second actions reported reports
   evict_one p q at second reported reports None e waits g noted = absurd waits
   evict_one p q at second reported reports (Some slot) e waits g noted = (Closes at slot.connection second Large ∷ [], inr (at, slot, g, refl, noted))

@@ -34,7 +34,7 @@ use Rattle.dep_host.specs.Hosting.{HostAction, IsEmpty, Position, Steps, positio
 use Rattle.dep_hub.specs.declared.faults.ConnectFault.{ConnectFault}
 use Rattle.dep_hub.specs.declared.faults.ConnectFault.TheVariants as fault
 use Rattle.dep_host.specs.Meeting.{IsOffer, MayCall, IsShutBy, MayEnd, Stops, Wakes, MayRefuse, IsFull, TurnsAway, Admits, Meets, refusal_for, refusal_of, rejection_for, shut_by, wakes, lets_in, turns_away, makes_round, stops, IsMet, begins, goes_on, all_given, Met}
-use Rattle.dep_slot.specs.Notes.{Note, Grows}
+use Rattle.dep_slot.specs.Notes.{Note, GrowsWhereShown}
 use Rattle.dep_host.specs.Rounds.{IsReported, EndsInTime, is_overdue}
 use Rattle.dep_slot.proofs.PhaseLemmas.{still_same}
 use Rattle.dep_host.proofs.HostLemmas.{grows_none, grows_on, asked, untouched, woken, alone, represents_still, steps_join}
@@ -130,7 +130,7 @@ may_end_on : {A R K S : Type 0} (host : Host A R K S) (why : Cause) (xs ys : Lis
 may_end_on host why xs ys (shut, inl empty) = (shut, inl empty)
 may_end_on host why xs ys (shut, inr late) = (shut, inr (late.0, Contains-append_right xs ys late.0 late.1, late.2))
 
-given_more : {R K S : Type 0} (old new : Option (List (Call R K S))) (last : Call R K S) (calls : List (Call R K S)) (end : Ended) → (end ≡ ended.Events → ⊥) → Grows old new calls → Grows old new (all_given end last calls)
+given_more : {R K S : Type 0} (old new : Option (List (Call R K S))) (last : Call R K S) (calls : List (Call R K S)) (end : Ended) → (end ≡ ended.Events → ⊥) → GrowsWhereShown old new calls → GrowsWhereShown old new (all_given end last calls)
 given_more old new last calls ended.Events more g = absurd (more refl)
 given_more old new last calls (ended.Shut why) more g = g
 given_more old new last calls ended.Spent more g = g
@@ -249,7 +249,7 @@ module _ {A R K S : Type 0} (condition : A → Condition) (unread : R → Option
     }
 
     pub met_on : (old mid new : Option (List (Call R K S))) (p q r : Host A R K S) (l m n : L) (call : Call R K S) (actions more : List HostAction) (count most : ℕ) (end : Ended)
-        → Met condition call_log unread taken held size causes notes old mid p q l m actions count ended.Spent → Grows mid new (call ∷ []) → MayCall size q call
+        → Met condition call_log unread taken held size causes notes old mid p q l m actions count ended.Spent → GrowsWhereShown mid new (call ∷ []) → MayCall size q call
         → Meets condition call_log unread taken held size causes notes q r m n call.offer call.event more
         → (end ≡ ended.Events → ⊥) → (((why : Cause) → end ≡ ended.Shut why → ⊥) → AllByRecursion (λ second. is_overdue r.shut second r.limits ≡ false) (seconds_of call.event))
         → ((why : Cause) → end ≡ ended.Shut why → MayEnd r why (seconds_of call.event)) → (end ≡ ended.Spent → most ≡ count + 1)
@@ -274,7 +274,7 @@ module _ {A R K S : Type 0} (condition : A → Condition) (unread : R → Option
 
     -- the last event, behind which nothing more is asked for
     ended_by : (T : Type 0) (old mid new : Option (List (Call R K S))) (p q r : Host A R K S) (l m n : L) (call : Call R K S) (actions : List HostAction) (count most : ℕ) (end : Ended)
-        → Met condition call_log unread taken held size causes notes old mid p q l m actions count ended.Spent → Grows mid new (call ∷ []) → MayCall size q call
+        → Met condition call_log unread taken held size causes notes old mid p q l m actions count ended.Spent → GrowsWhereShown mid new (call ∷ []) → MayCall size q call
         → IsMet condition call_log unread taken held size causes notes {T = T} q r m n call.offer call.event (Err end)
         → ((why : Cause) → end ≡ ended.Shut why → MayEnd r why (seconds_of call.event)) → (all : List HostAction) × Met condition call_log unread taken held size causes notes old new p r l n all most end
     ended_by T old mid new p q r l m n call actions count most ended.Events s g offered h may =
@@ -301,14 +301,14 @@ module _ {A R K S : Type 0} (condition : A → Condition) (unread : R → Option
     ended_by T old mid new p q r l m n call actions count most ended.Spent s g offered h may = absurd h
 
     pub met_last : {T : Type 0} (old mid new : Option (List (Call R K S))) (p q r : Host A R K S) (l m n : L) (call : Call R K S) (actions : List HostAction) (count most : ℕ) (end : Ended) (result : Result T Ended)
-        → result ≡ Err end → Met condition call_log unread taken held size causes notes old mid p q l m actions count ended.Spent → Grows mid new (call ∷ []) → MayCall size q call
+        → result ≡ Err end → Met condition call_log unread taken held size causes notes old mid p q l m actions count ended.Spent → GrowsWhereShown mid new (call ∷ []) → MayCall size q call
         → IsMet condition call_log unread taken held size causes notes q r m n call.offer call.event result
         → ((why : Cause) → result ≡ Err (ended.Shut why) → MayEnd r why (seconds_of call.event)) → (all : List HostAction) × Met condition call_log unread taken held size causes notes old new p r l n all most end
     met_last {T = T} old mid new p q r l m n call actions count most end result is s g offered h may =
         ended_by T old mid new p q r l m n call actions count most end s g offered (subst (λ (k : Result T Ended). IsMet condition call_log unread taken held size causes notes q r m n call.offer call.event k) is h) (λ why e. may why (is ∙ ap Err e))
 
     pub met_next : (old mid new : Option (List (Call R K S))) (p q r : Host A R K S) (l m n : L) (call : Call R K S) (count most : ℕ)
-        → (actions : List HostAction) × Met condition call_log unread taken held size causes notes old mid p q l m actions count ended.Spent → Grows mid new (call ∷ []) → MayCall size q call
+        → (actions : List HostAction) × Met condition call_log unread taken held size causes notes old mid p q l m actions count ended.Spent → GrowsWhereShown mid new (call ∷ []) → MayCall size q call
         → IsMetBySome q r m n call.offer call.event → AllByRecursion (λ second. is_overdue r.shut second r.limits ≡ false) (seconds_of call.event) → most ≡ count + 1
         → (actions : List HostAction) × Met condition call_log unread taken held size causes notes old new p r l n actions most ended.Spent
     met_next old mid new p q r l m n call count most s g offered h now next = (

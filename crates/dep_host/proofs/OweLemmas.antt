@@ -28,8 +28,8 @@ use Rattle.dep_slot.specs.declared.connection_state.Phase.{Phase}
 use Rattle.dep_slot.specs.declared.connection_state.Phase.TheVariants.{Open, Over}
 use Rattle.dep_slot.specs.ConnectionStates.{is_sending}
 use Rattle.dep_slot.specs.Slots.{SameBehind}
-use Rattle.dep_host.specs.Hosting.{Position, slot_at, Reports, HostAction, Opens, Takes, Replies, Sends, Declines, Closes, sent_by, replies_to, StandsStill, Step, refused, asks, comes, rests, offers, delays, sends, refuses, answers, leaves, Steps, begins, goes_on}
-use Rattle.dep_host.specs.Runs.{Follows, begins as follows_none, opens, takes, replies, sends as follows_sent, declines, closes, StaysOpen, replies_of, parts_of, sent_for, sent_of, KeepsPromise, OwesNone}
+use Rattle.dep_host.specs.Hosting.{Position, slot_at, AreShown, HostAction, Opens, Takes, Replies, Sends, Declines, Closes, sent_by_action, replies_to, StandsStill, Step, refused, asks, comes, rests, offers, delays, sends, refuses, answers, leaves, Steps, begins, goes_on}
+use Rattle.dep_host.specs.Runs.{Follows, begins as follows_none, opens, takes, replies, sends as follows_sent, declines, closes, StaysOpen, reply_count, parts_of, sent_for, sent_of, KeepsPromise, OwesNone}
 use Rattle.dep_host.proofs.CloseLemmas.{clean_before}
 use Rattle.dep_host.proofs.HostLemmas.{steps_join}
 use Rattle.dep_host.proofs.ReadLemmas.{open_before, open_last, replies_one, sent_one, reads_arrive}
@@ -77,7 +77,7 @@ stays_unanswered (at_live (step_fails items item at reads fails)) none = absurd 
 stays_unanswered at_shut_line none = refl
 
 -- what is sent at once and later is the reply
-joins_reply : (t k more : Option (List ℕ)) (now reply : List ℕ) → Appends t k now → Appends t (with_more k more) reply → Reports t → Reports k → now ++ bytes_later more ≡ reply
+joins_reply : (t k more : Option (List ℕ)) (now reply : List ℕ) → Appends t k now → Appends t (with_more k more) reply → AreShown t → AreShown k → now ++ bytes_later more ≡ reply
 joins_reply None k more now reply a b t u = absurd t
 joins_reply (Some x) None more now reply a b t u = absurd u
 joins_reply (Some x) (Some y) None now reply a b t u = append-nil now ∙ append_cancel_left x now reply (sym a ∙ b)
@@ -104,8 +104,8 @@ joins_same r o s r' o' s' joined er eo es = ap (λ (l : List ℕ). l ++ o') er �
 known_joined : (t : Option (List ℕ)) (r o s : List ℕ) → t ≡ Some r → r ++ o ≡ s → append_known t o ≡ Some s
 known_joined t r o s is joined = ap (λ (k : Option (List ℕ)). append_known k o) is ∙ ap Some joined
 
-pub replies_join : (n : ℕ) (xs ys : List HostAction) → replies_of n (xs ++ ys) ≡ replies_of n xs + replies_of n ys
-replies_join n [] ys = let none : replies_of n [] ≡ 0 = refl in omega (arith, none)
+pub replies_join : (n : ℕ) (xs ys : List HostAction) → reply_count n (xs ++ ys) ≡ reply_count n xs + reply_count n ys
+replies_join n [] ys = let none : reply_count n [] ≡ 0 = refl in omega (arith, none)
 replies_join n (d ∷ xs) ys = let e = replies_join n xs ys in omega (arith, e)
 
 parts_join : (n : ℕ) (xs ys : List HostAction) → parts_of n (xs ++ ys) ≡ parts_of n xs + parts_of n ys
@@ -219,7 +219,7 @@ module _ {A R K S : Type 0} (condition : A → Condition) (unread : R → Option
   one_more new first before more holds owes one represents = subst (λ (l : List Record). RepresentsOwingAfter condition new first l holds owes) (append_assoc before more (one ∷ [])) represents
 
   -- a action more, for which nothing is sent
-  unsent_one : (n : ℕ) (actions : List HostAction) (d : HostAction) → sent_by n d ≡ [] → replies_to n (actions ++ d ∷ []) ≡ replies_to n actions
+  unsent_one : (n : ℕ) (actions : List HostAction) (d : HostAction) → sent_by_action n d ≡ [] → replies_to n (actions ++ d ∷ []) ≡ replies_to n actions
   unsent_one n actions d none = replies_one n actions d ∙ (ap (λ (l : List ℕ). replies_to n actions ++ l) none ∙ append-nil (replies_to n actions))
 
   unreported_one : (n : ℕ) (records : List Record) (r : Record) → sent_for n r.event r.sent ≡ [] → sent_of n (records ++ r ∷ []) ≡ sent_of n records
@@ -432,7 +432,7 @@ module _ {A R K S : Type 0} (condition : A → Condition) (unread : R → Option
 
   -- a step that sends a part makes what is owed shorter, and none makes it longer, but an answer
   step_pays : {p q : Position A R K S} {actions more : List HostAction} (first : State) (before : List Record) (all : AllAgree condition unread taken held p) (m : OwesBehind p first before actions) (s : Step condition unread taken held p q more)
-      (clean : IsClean condition q.hub) (n : ℕ) → replies_of n more ≡ 0 → parts_of n more + length ((step_owes first before all m s clean).owes n) ≤ length (m.owes n)
+      (clean : IsClean condition q.hub) (n : ℕ) → reply_count n more ≡ 0 → parts_of n more + length ((step_owes first before all m s clean).owes n) ≤ length (m.owes n)
   unfolding step_owes none_more
   step_pays first before all m (refused r) clean n none = as_many (length (m.owes n))
   step_pays first before all m (asks r) clean n none = as_many (length (m.owes n))
@@ -468,7 +468,7 @@ module _ {A R K S : Type 0} (condition : A → Condition) (unread : R → Option
 
   -- so do all of them
   steps_pay : {p m q : Position A R K S} {early late : List HostAction} (first : State) (before : List Record) → ((at : ℕ) → slot_at at p.slots ≡ None) → Steps condition unread taken held p early m → (it : OwesBehind m first before early)
-      → Steps condition unread taken held m late q → IsClean condition q.hub → (now : OwesBehind q first before (early ++ late)) × ((n : ℕ) → replies_of n late ≡ 0 → parts_of n late + length (now.owes n) ≤ length (it.owes n))
+      → Steps condition unread taken held m late q → IsClean condition q.hub → (now : OwesBehind q first before (early ++ late)) × ((n : ℕ) → reply_count n late ≡ 0 → parts_of n late + length (now.owes n) ≤ length (it.owes n))
   unfolding none_more behind_all step_owes
   steps_pay {early = early} first before empty came it begins clean =
       (none_more _ _ first before early it it.represents, λ n none. as_many (length (it.owes n)))
@@ -488,7 +488,7 @@ module _ {A R K S : Type 0} (condition : A → Condition) (unread : R → Option
   pub pays_off : (p m q : Position A R K S) (early late : List HostAction) (first : State) (before : List Record) → ((at : ℕ) → slot_at at p.slots ≡ None) → OwesNone p.hub → RepresentsHoldingAfter condition p.hub first before (λ n. [])
       → Steps condition unread taken held p early m → Steps condition unread taken held m late q → IsClean condition q.hub
       → (was : KeepsPromise condition unread taken held m first before early) × (now : KeepsPromise condition unread taken held q first before (early ++ late))
-      × ((number : ℕ) → replies_of number late ≡ 0 → parts_of number late + length (now.owed number) ≤ length (was.owed number))
+      × ((number : ℕ) → reply_count number late ≡ 0 → parts_of number late + length (now.owed number) ≤ length (was.owed number))
   unfolding promise_of steps_owe
   pays_off p m q early late first before empty unowed h came goes clean =
       let it = steps_owe first before empty unowed h came (all_clean goes clean) in

@@ -4,7 +4,7 @@ use Rattle.std.proofs.lemmas.List.{append-nil}
 use Rattle.std.proofs.lemmas.Bool.{cases_eq, eq-eqb, ne_eqb}
 use Rattle.dep_exchange.specs.Records.{Record, Connect, Arrive, Close}
 use Rattle.dep_hub.specs.Holding.{with_held}
-use Rattle.dep_host.specs.Hosting.{HostAction, Opens, Takes, Replies, Sends, Declines, Closes, sent_by, replies_to}
+use Rattle.dep_host.specs.Hosting.{HostAction, Opens, Takes, Replies, Sends, Declines, Closes, sent_by_action, replies_to}
 use Rattle.dep_host.specs.Runs.{Follows, begins, opens, takes, replies, sends, declines, closes, read_by, read_of, arrived_by, arrived_of, StaysOpen, sent_for, sent_of}
 use Rattle.std.proofs.lemmas.Grind.{flat_map-append}
 
@@ -96,8 +96,8 @@ reads_arrive {first = first} n (closes {actions = actions} {records = records} {
     stays (first n) (read_of n actions) (arrived_of n records) (held n) _ _ (with_held m [] held n) (reads_arrive n f (open_before n actions (Closes at m second reason ∷ []) h))
     (read_none n actions (Closes at m second reason) refl) (arrived_none n records (record { event = Close m; sent = [] }) refl) (elsewhere n m [] (held n) (open_last n actions (Closes at m second reason ∷ []) h).0)
 
-pub replies_one : (n : ℕ) (actions : List HostAction) (d : HostAction) → replies_to n (actions ++ d ∷ []) ≡ replies_to n actions ++ sent_by n d
-replies_one n actions d = flat_map-append (λ e. sent_by n e) actions (d ∷ []) ∙ ap (λ l. replies_to n actions ++ l) (append-nil (sent_by n d))
+pub replies_one : (n : ℕ) (actions : List HostAction) (d : HostAction) → replies_to n (actions ++ d ∷ []) ≡ replies_to n actions ++ sent_by_action n d
+replies_one n actions d = flat_map-append (λ e. sent_by_action n e) actions (d ∷ []) ∙ ap (λ l. replies_to n actions ++ l) (append-nil (sent_by_action n d))
 
 pub sent_one : (n : ℕ) (records : List Record) (r : Record) → sent_of n (records ++ r ∷ []) ≡ sent_of n records ++ sent_for n r.event r.sent
 sent_one n records r = flat_map-append (λ (e : Record). sent_for n e.event e.sent) records (r ∷ []) ∙ ap (λ l. sent_of n records ++ l) (append-nil (sent_for n r.event r.sent))

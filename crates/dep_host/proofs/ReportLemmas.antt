@@ -5,9 +5,9 @@ use Rattle.std.proofs.lemmas.Bool.{cases_eq, eq-eqb, ne_eqb}
 use Rattle.std.specs.Io.KnownBytes.{Appends, Keeps, IsAtEnd, prepend_known}
 use Rattle.dep_types.specs.Conditions.{Condition}
 use Rattle.dep_slot.specs.declared.slot.Slot.{Slot}
-use Rattle.dep_outbox.specs.Wires.{front_of, joined, reported}
+use Rattle.dep_outbox.specs.Wires.{front_of, joined_bytes, reported}
 use Rattle.dep_host.specs.Runs.{StaysOpen}
-use Rattle.dep_host.specs.Hosting.{Position, slot_at, HostAction, Opens, Takes, Replies, Sends, Declines, Closes, sent_by, replies_to, Reports, Step, refused, asks, comes, rests, offers, delays, sends, refuses, answers, leaves, HasTurn, Steps, begins, goes_on}
+use Rattle.dep_host.specs.Hosting.{Position, slot_at, HostAction, Opens, Takes, Replies, Sends, Declines, Closes, sent_by_action, replies_to, AreShown, Step, refused, asks, comes, rests, offers, delays, sends, refuses, answers, leaves, HasTurn, Steps, begins, goes_on}
 use Rattle.std.proofs.lemmas.Grind.{flat_map-append}
 
 abbrev or_else : {X : Type 0} → X → Option X → X
@@ -21,7 +21,7 @@ pub no_some : {X : Type 0} (a : X) → None ≡ Some a → ⊥
 no_some a e = absurd (cc)
 
 replies_append : (n : ℕ) (xs ys : List HostAction) → replies_to n (xs ++ ys) ≡ replies_to n xs ++ replies_to n ys
-replies_append n xs ys = flat_map-append (λ d. sent_by n d) xs ys
+replies_append n xs ys = flat_map-append (λ d. sent_by_action n d) xs ys
 
 -- what is sent to a connection goes to no other
 sent_here : (n : ℕ) (sent : List ℕ) → (if n == n then sent else []) ++ [] ≡ sent
@@ -38,7 +38,7 @@ slot_set slots i j x y there h = elim (cases_eq j i) [
   | inr ne ↦ inr (ne, sym (get_or-set_other slots i j x None ne) ∙ h)
 ]
 
-pub reported_keeps : (a b : Option (List ℕ)) (xs : List ℕ) → Keeps a b → Reports b → a ≡ Some xs → b ≡ Some xs
+pub reported_keeps : (a b : Option (List ℕ)) (xs : List ℕ) → Keeps a b → AreShown b → a ≡ Some xs → b ≡ Some xs
 reported_keeps None b xs k t e = absurd (no_some xs e)
 reported_keeps (Some x) None xs k t e = absurd k
 reported_keeps (Some x) (Some y) xs k t e = ap Some k ∙ e
@@ -48,11 +48,11 @@ reported_appends None b xs sent k e = absurd (no_some xs e)
 reported_appends (Some x) None xs sent k e = absurd k
 reported_appends (Some x) (Some y) xs sent k e = ap Some (k ∙ ap (λ l. l ++ sent) (some_same x xs e))
 
-reported_at_end : (a : Option (List ℕ)) → IsAtEnd a → Reports a → a ≡ Some []
+reported_at_end : (a : Option (List ℕ)) → IsAtEnd a → AreShown a → a ≡ Some []
 reported_at_end None e t = absurd t
 reported_at_end (Some x) e t = ap Some e
 
-reports_joined : (a h : Option (List ℕ)) (f : List ℕ) → Reports a → Reports h → Reports (joined a (prepend_known f h))
+reports_joined : (a h : Option (List ℕ)) (f : List ℕ) → AreShown a → AreShown h → AreShown (joined_bytes a (prepend_known f h))
 reports_joined None h f t u = absurd t
 reports_joined (Some x) None f t u = absurd u
 reports_joined (Some x) (Some y) f t u = tt
@@ -64,9 +64,9 @@ open_append n (d ∷ xs) ys h k = (h.0, open_append n xs ys h.1 k)
 module _ {A R K S : Type 0} (condition : A → Condition) (unread : R → Option (List ℕ)) (taken : K → Option (List ℕ)) (held : S → Option (List ℕ)) where
   -- all sockets and spools tell their bytes
   abbrev pub AllReport : Type 0
-  AllReport = ((sink : K) → Reports (taken sink)) × ((spool : S) → Reports (held spool))
+  AllReport = ((sink : K) → AreShown (taken sink)) × ((spool : S) → AreShown (held spool))
 
-  pub reports_of : AllReport → (slot : Slot R K S) → Reports (reported taken held slot.wire)
+  pub reports_of : AllReport → (slot : Slot R K S) → AreShown (reported taken held slot.wire)
   reports_of all slot = reports_joined (taken slot.wire.sink) (held slot.wire.backlog.spool) (front_of slot.wire.backlog) (all.0 slot.wire.sink) (all.1 slot.wire.backlog.spool)
 
   pub record Tidy (q : Position A R K S) (rs : List HostAction) : Type 0 where
@@ -158,7 +158,7 @@ module _ {A R K S : Type 0} (condition : A → Condition) (unread : R → Option
 
   -- and one in which something was sent for it
   sent_tidy : (p q : Position A R K S) (rs : List HostAction) (one : HostAction) (at : ℕ) (before after : Slot R K S) (sent : List ℕ) → Tidy p rs → HasTurn condition unread taken held p q at before after
-      → Appends (reported taken held before.wire) (reported taken held after.wire) sent → ((n : ℕ) → sent_by n one ≡ (if before.connection == n then sent else []))
+      → Appends (reported taken held before.wire) (reported taken held after.wire) sent → ((n : ℕ) → sent_by_action n one ≡ (if before.connection == n then sent else []))
       → ((n : ℕ) → StaysOpen n (one ∷ [])) → Tidy q (rs ++ one ∷ [])
   sent_tidy p q rs one at before after sent tidy t appends reported_so unclosing =
       let later : p.hub.next ≤ q.hub.next = let e = t.hub.next in omega (arith, e) in
@@ -218,7 +218,7 @@ module _ {A R K S : Type 0} (condition : A → Condition) (unread : R → Option
   steps_tidy empty (goes_on s t) = step_tidy (steps_tidy empty s) t
 
   -- what each wire took is what was sent for its connection
-  pub wires_take : (p q : Position A R K S) (rs : List HostAction) → ((sink : K) → Reports (taken sink)) → ((spool : S) → Reports (held spool)) → ((at : ℕ) → slot_at at p.slots ≡ None)
+  pub wires_take : (p q : Position A R K S) (rs : List HostAction) → ((sink : K) → AreShown (taken sink)) → ((spool : S) → AreShown (held spool)) → ((at : ℕ) → slot_at at p.slots ≡ None)
       → Steps condition unread taken held p rs q → (at : ℕ) (slot : Slot R K S) → slot_at at q.slots ≡ Some slot → reported taken held slot.wire ≡ Some (replies_to slot.connection rs)
   wires_take p q rs reports holds empty s at slot h = (steps_tidy empty s).reporting (reports, holds) at slot h
 

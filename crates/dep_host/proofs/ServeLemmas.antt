@@ -24,7 +24,7 @@ use Rattle.dep_slot.specs.declared.connection_state.NextAction.{NextAction}
 use Rattle.dep_slot.specs.declared.connection_state.NextAction.TheVariants as to
 use Rattle.dep_slot.specs.Slots.{IsPutOff, IsUnknown, MayRest, ActsOnce, TakesTurn, slot_action, phase_sent}
 use Rattle.dep_host.specs.Hosting.{Position, slot_at, MayGo, farewell, closings_of, HostAction, Takes, Replies, Sends, Declines, Closes, answers_at, pieces_at, sendings_at, sendings_in, unfinished_of, AreDoneAt, HasTurn, Goes, rests, offers, delays, sends, refuses, answers, leaves, Steps, begins, goes_on, IsOnce, IsLost, IsServed, IsServedAt, turn_action, Serves}
-use Rattle.dep_slot.specs.Notes.{Note, LetGo, Grows}
+use Rattle.dep_slot.specs.Notes.{Note, LetGo, GrowsWhereShown}
 use Rattle.dep_host.proofs.HostLemmas.{grows_same, slot_read, steps_join, unchanged, woken}
 use Rattle.dep_host.proofs.ActionLemmas.{answers_append, pieces_append, sendings_in_append, counted_by, sendings_after, in_time_append, noted_on, one_at_most, one_here, one_sent, none_sent, none_elsewhere}
 use Rattle.dep_slot.proofs.PhaseLemmas.{asks_sending, begun_once, over_begun, sends_begun, still_begun}
@@ -318,12 +318,12 @@ module _ {A R K S : Type 0} (condition : A → Condition) (unread : R → Option
               (served_begun p m q s.actions is_full may_send before mid after (answers_at at s.actions) (pieces_at at s.actions) (sendings_at at s.actions) (slot_action size mid) began refl number wire count writable twice s.does);
         });
         in_time = s.in_time;
-        noted = subst (λ (l : List Note). Grows reported_old reported_new l) (sym s.quiet) (grows_same reported_old reported_new quiet);
+        noted = subst (λ (l : List Note). GrowsWhereShown reported_old reported_new l) (sym s.quiet) (grows_same reported_old reported_new quiet);
       }
 
   -- and was closed after it
   pub then_closed : (p q r : Position A R K S) (at : ℕ) (time : Time) (is_full may_send has_sent : Bool) (reported so_far reports : Option (List Note)) (reason : Closing) (slot : Slot R K S) → Serves condition unread taken held size causes p q at time is_full may_send has_sent reported so_far → Goes condition unread taken held q r at time.second reason slot
-      → Grows so_far reports (LetGo slot.connection reason ∷ []) → Serves condition unread taken held size causes p r at time is_full may_send has_sent reported reports
+      → GrowsWhereShown so_far reports (LetGo slot.connection reason ∷ []) → Serves condition unread taken held size causes p r at time is_full may_send has_sent reported reports
   then_closed p q r at time is_full may_send has_sent reported so_far reports reason slot s g noted =
       let more : List HostAction = Closes at slot.connection time.second reason ∷ [] in
       record {
@@ -344,6 +344,6 @@ module _ {A R K S : Type 0} (condition : A → Condition) (unread : R → Option
       }
 
   pub closes_served : (p q r : Position A R K S) (at : ℕ) (time : Time) (is_full may_send has_sent : Bool) (reported so_far reports : Option (List Note)) (reason : Closing) (x : Option (Slot R K S)) → IfSome x (Goes condition unread taken held q r at time.second reason) → MayGo q time.second reason x
-      → Serves condition unread taken held size causes p q at time is_full may_send has_sent reported so_far → Grows so_far reports (farewell reason x) → Serves condition unread taken held size causes p r at time is_full may_send has_sent reported reports
+      → Serves condition unread taken held size causes p q at time is_full may_send has_sent reported so_far → GrowsWhereShown so_far reports (farewell reason x) → Serves condition unread taken held size causes p r at time is_full may_send has_sent reported reports
   closes_served p q r at time is_full may_send has_sent reported so_far reports reason None g d s noted = absurd d
   closes_served p q r at time is_full may_send has_sent reported so_far reports reason (Some slot) g d s noted = then_closed p q r at time is_full may_send has_sent reported so_far reports reason slot s g noted

@@ -3,7 +3,7 @@ use Rattle.std.proofs.Common.{◌≡◌, ◌⊎◌, ◌<◌, ◌≤◌, ◌+◌,
 use Rattle.std.proofs.lemmas.Bool.{cases_eq, cases_lt, eq-eqb, ne_eqb, lt-ltb, le-ltb}
 use Rattle.std.proofs.Math.Bool.{or-true}
 use Rattle.dep_host.specs.declared.share.Share.{Share}
-use Rattle.dep_host.specs.Sharing.{IsNext, AreNexts, IsTurnInOne, counted, is_turn, most_sent}
+use Rattle.dep_host.specs.Sharing.{IsNextPlace, AreNexts, IsTurnInOne, counted, is_turn, most_sent}
 
 -- so many contents were sent on at the places so far
 pub record SharesSo (share : Share) (at sent : ℕ) : Type 0 where
@@ -119,7 +119,7 @@ room_left share at sent s turn = elim s.goes_by [
 pub sent_few : (share : Share) (at sent : ℕ) → SharesSo share at sent → sent ≤ most_sent
 sent_few share at sent s = let c = s.counts in let few : sent ≤ 64 = omega (arith, c) in few
 
-pub shares_end : (share : Share) (places at sent : ℕ) → SharesSo share at sent → at ≤ places → IsNext places share.first share.next sent
+pub shares_end : (share : Share) (places at sent : ℕ) → SharesSo share at sent → at ≤ places → IsNextPlace places share.first share.next sent
 shares_end share places at sent s within = elim s.goes_by [
   | inl h ↦ inl h.0
   | inr h ↦
@@ -136,7 +136,7 @@ turn_there first next place ge lt =
     ap (λ (b : Bool). not b && (next == 0 || nat_lt place next)) (le-ltb place first ge) ∙ (ap (λ (b : Bool). next == 0 || b) (lt-ltb place next lt) ∙ or-true (next == 0))
 
 -- it is its turn, or the next round begins nearer to it
-turn_or_nearer : (places first next place sent : ℕ) → place < places → IsNext places first next sent
+turn_or_nearer : (places first next place sent : ℕ) → place < places → IsNextPlace places first next sent
     → (is_turn first next place ≡ true) ⊎ (((first ≤ place) × (first + 64 ≤ next) × (next ≤ place)) ⊎ ((place < first) × ((next ≡ 0) ⊎ ((first + 64 ≤ next) × (next ≤ places)))))
 turn_or_nearer places first next place sent there n = elim (cases_lt place first) [
   | inl lt ↦ inr (inr (

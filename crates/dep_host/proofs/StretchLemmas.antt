@@ -14,7 +14,7 @@ use Rattle.dep_slot.specs.declared.log.Closing.{Closing}
 use Rattle.dep_slot.specs.declared.connection_state.NextAction.{NextAction}
 use Rattle.dep_slot.specs.declared.connection_state.NextAction.TheVariants as to
 use Rattle.dep_slot.specs.Slots.{IsUnknown, phase_sent}
-use Rattle.dep_host.specs.Hosting.{Position, slot_at, HostAction, Closes, answers_at, pieces_at, sendings_at, unfinished_of, Goes, Steps, begins, IsClosed, IsLeftAs, IsOnce, IsLost, IsKeptBack, IsServed, IsServedAt, turn_action}
+use Rattle.dep_host.specs.Hosting.{Position, slot_at, HostAction, Closes, answers_at, pieces_at, sendings_at, unfinished_of, Goes, Steps, begins, IsClosed, IsLeftOrClosed, IsOnce, IsLost, IsKeptBack, IsServed, IsServedAt, turn_action}
 use Rattle.dep_host.proofs.HostLemmas.{steps_join}
 use Rattle.dep_host.proofs.ActionLemmas.{answers_append, pieces_append, sendings_after, sendings_before}
 use Rattle.dep_slot.proofs.SlotLemmas.{lost_too}
@@ -144,12 +144,12 @@ module _ {A R K S : Type 0} (condition : A → Condition) (unread : R → Option
       })
 
   -- it is left as it was where it began earlier, and where it went on later
-  left_before : (p q r : Position A R K S) (xs ys : List HostAction) (place : ℕ) (slot : Slot R K S) → Steps condition unread taken held p xs q → IsLeftAs condition unread taken held q r ys place slot → IsLeftAs condition unread taken held p r (xs ++ ys) place slot
+  left_before : (p q r : Position A R K S) (xs ys : List HostAction) (place : ℕ) (slot : Slot R K S) → Steps condition unread taken held p xs q → IsLeftOrClosed condition unread taken held q r ys place slot → IsLeftOrClosed condition unread taken held p r (xs ++ ys) place slot
   left_before p q r xs ys place slot s (inl sits) = inl sits
   left_before p q r xs ys place slot s (inr k) = inr (closed_before p q r xs ys place slot s k)
 
   left_later : (p q r : Position A R K S) (xs ys : List HostAction) (place : ℕ) (slot : Slot R K S) → Steps condition unread taken held p xs q → Steps condition unread taken held q ys r
-      → ((other : Slot R K S) → slot_at place q.slots ≡ Some other → IsLeftAs condition unread taken held q r ys place other) → IsLeftAs condition unread taken held p q xs place slot → IsLeftAs condition unread taken held p r (xs ++ ys) place slot
+      → ((other : Slot R K S) → slot_at place q.slots ≡ Some other → IsLeftOrClosed condition unread taken held q r ys place other) → IsLeftOrClosed condition unread taken held p q xs place slot → IsLeftOrClosed condition unread taken held p r (xs ++ ys) place slot
   left_later p q r xs ys place slot s t how (inl sits) = left_before p q r xs ys place slot s (how slot sits)
   left_later p q r xs ys place slot s t how (inr k) = inr (closed_later p q r xs ys place slot t k)
 
@@ -177,7 +177,7 @@ module _ {A R K S : Type 0} (condition : A → Condition) (unread : R → Option
 
   -- later actions did not concern it, but that it may have been closed
   pub at_after : (p q r : Position A R K S) (is_full may_send : Bool) (xs ys : List HostAction) (place : ℕ) (x : Option (Slot R K S)) → Steps condition unread taken held p xs q → Steps condition unread taken held q ys r
-      → ((other : Slot R K S) → slot_at place q.slots ≡ Some other → IsLeftAs condition unread taken held q r ys place other) → answers_at place ys ≡ 0
+      → ((other : Slot R K S) → slot_at place q.slots ≡ Some other → IsLeftOrClosed condition unread taken held q r ys place other) → answers_at place ys ≡ 0
       → pieces_at place ys ≡ 0 → sendings_at place ys ≡ [] → IsServedAt condition unread taken held size causes p q is_full may_send xs place x → IsServedAt condition unread taken held size causes p r is_full may_send (xs ++ ys) place x
   at_after p q r is_full may_send xs ys place None s t how none unread_later unsent_later h = tt
   at_after p q r is_full may_send xs ys place (Some slot) s t how none unread_later unsent_later h =

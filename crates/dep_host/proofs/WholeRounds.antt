@@ -13,9 +13,9 @@ use Rattle.dep_slot.specs.declared.log.Closing.TheVariants.{Large}
 use Rattle.dep_slot.specs.declared.connection_state.NextAction.{NextAction}
 use Rattle.dep_slot.specs.declared.connection_state.NextAction.TheVariants as to
 use Rattle.dep_host.specs.Hosting.{Position, slot_at, closings_of, HostAction, Closes, answers_at, pieces_at, sendings_at, sendings_in, unfinished_of, unfinished_in, AreDoneAt, leaves, Steps, begins, goes_on, IsClosed, IsServed, IsServedAt, IsTurned, WasAwaited, Serves, GoesRound, EvictsLargest}
-use Rattle.dep_slot.specs.Notes.{Note, Grows}
+use Rattle.dep_slot.specs.Notes.{Note, GrowsWhereShown}
 use Rattle.dep_host.specs.declared.share.Share.{Share}
-use Rattle.dep_host.specs.Sharing.{IsNext, counted, is_turn, most_sent}
+use Rattle.dep_host.specs.Sharing.{IsNextPlace, counted, is_turn, most_sent}
 use Rattle.dep_host.proofs.ShareLemmas.{SharesSo, room_left, shares_begin, shares_on, shares_end, sent_few}
 use Rattle.dep_host.proofs.HostLemmas.{grows_none, steps_join}
 use Rattle.dep_host.proofs.ActionLemmas.{answers_append, pieces_append, sendings_in_append, sendings_after, sendings_before, in_time_append, noted_on}
@@ -37,7 +37,7 @@ module _ {A R K S : Type 0} (condition : A → Condition) (unread : R → Option
     pub stays : (place : ℕ) → at ≤ place → slot_at place q.slots ≡ slot_at place p.slots
     served : (place : ℕ) → place < at → IsServedAt condition unread taken held size causes p q is_full (is_turn share.first share.next place) actions place (slot_at place p.slots)
     in_time : AreDoneAt time actions
-    noted : Grows reported reports (closings_of actions)
+    noted : GrowsWhereShown reported reports (closings_of actions)
 
   pub round_begins : (p : Position A R K S) (time : Time) (is_full : Bool) (share : Share) (reported : Option (List Note)) → share.next ≡ 0 → share.left ≡ most_sent → RoundSoFar p p 0 time is_full share reported reported
   round_begins p time is_full share reported next left = record {
@@ -136,7 +136,7 @@ module _ {A R K S : Type 0} (condition : A → Condition) (unread : R → Option
     goes_by = shares_end share (length p.slots) at (sendings_in s.actions) s.shares within;
     served = λ place. subst (λ (b : Bool). IsServedAt condition unread taken held size causes p q b (is_turn share.first share.next place) s.actions place (slot_at place p.slots)) e (all_served p q at time is_full share reported so_far s all place);
     in_time = s.in_time;
-    noted = subst (λ (o : Option (List Note)). Grows reported o (closings_of s.actions)) (sym quiet) s.noted;
+    noted = subst (λ (o : Option (List Note)). GrowsWhereShown reported o (closings_of s.actions)) (sym quiet) s.noted;
     evicts = (q, s.actions, [], so_far, sym (append-nil s.actions), s.steps, s.noted, inl (refl, keep, refl, quiet));
   })
   round_ends p q r at time is_full share last reported so_far reports s within e all (inr (place, slot, g, one, noted)) =
@@ -151,7 +151,7 @@ module _ {A R K S : Type 0} (condition : A → Condition) (unread : R → Option
             let o = s.waits (e ∙ lt-ltb p.limits.unfinished_bytes (unfinished_in p.slots) full) other some in omega (arith, a, f, o);
         sends_once = λ other. let a = ap (λ (l : List SentOn). length l) (sendings_after other s.actions more refl) in let o = s.sends_once other in omega (arith, a, o);
         sends_few = subst (λ (n : ℕ). n ≤ most_sent) none (sent_few share at (sendings_in s.actions) s.shares);
-        goes_by = subst (λ (n : ℕ). IsNext (length p.slots) share.first share.next n) none (shares_end share (length p.slots) at (sendings_in s.actions) s.shares within);
+        goes_by = subst (λ (n : ℕ). IsNextPlace (length p.slots) share.first share.next n) none (shares_end share (length p.slots) at (sendings_in s.actions) s.shares within);
         served = λ other. subst (λ (b : Bool). IsServedAt condition unread taken held size causes p r b (is_turn share.first share.next other) (s.actions ++ more) other (slot_at other p.slots)) e
             (at_after condition unread taken held size causes p q r is_full (is_turn share.first share.next other) s.actions more other (slot_at other p.slots) s.steps (goes_on begins (leaves g)) (λ who sits. elim (cases_eq other place) [
               | inl is ↦ inr (subst (λ (n : ℕ). IsClosed condition unread taken held q r more n who) (sym is)

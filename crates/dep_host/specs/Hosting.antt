@@ -25,9 +25,9 @@ use Rattle.dep_slot.specs.declared.log.Closing.{Closing}
 use Rattle.dep_slot.specs.declared.log.Closing.TheVariants as ends
 use Rattle.dep_slot.specs.ConnectionStates.{StaysOrIsOver, closing, next_action, is_ended, is_held_back, phase_begun}
 use Rattle.dep_slot.specs.Causes.{Causes, HasCauses}
-use Rattle.dep_slot.specs.Notes.{Note, LetGo, Grows}
+use Rattle.dep_slot.specs.Notes.{Note, LetGo, GrowsWhereShown}
 use Rattle.dep_slot.specs.Slots.{HubStays, IsPutOff, SameBehind, SameClient, SendsOn, slot_action, phase_sent, IsUnknown, Rests, Offers, Refuses, Answers, Delays, Sends as SendsContent}
-use Rattle.dep_host.specs.Sharing.{IsNext, is_turn, most_sent}
+use Rattle.dep_host.specs.Sharing.{IsNextPlace, is_turn, most_sent}
 
 -- the hub, who is where, what bounds them, and since when it is shut
 pub record Position (A R K S : Type 0) : Type 0 where
@@ -69,22 +69,22 @@ pub data HostAction : Type 0 where
   Closes : (at number second : ℕ) → (reason : Closing) → HostAction
 
 -- what was sent to a connection
-abbrev pub sent_by : ℕ → HostAction → List ℕ
-sent_by number (Opens at n given) = []
-sent_by number (Takes at n piece) = []
-sent_by number (Replies at n moment sent reply) = if n == number then sent else []
-sent_by number (Sends at n sent answer) = if n == number then sent else []
-sent_by number (Declines at n piece moment sent) = if n == number then sent else []
-sent_by number (Closes at n second reason) = []
+abbrev pub sent_by_action : ℕ → HostAction → List ℕ
+sent_by_action number (Opens at n given) = []
+sent_by_action number (Takes at n piece) = []
+sent_by_action number (Replies at n moment sent reply) = if n == number then sent else []
+sent_by_action number (Sends at n sent answer) = if n == number then sent else []
+sent_by_action number (Declines at n piece moment sent) = if n == number then sent else []
+sent_by_action number (Closes at n second reason) = []
 
 -- what all actions sent to the connection of a number
 abbrev pub replies_to : ℕ → List HostAction → List ℕ
-replies_to number actions = flat_map (λ d. sent_by number d) actions
+replies_to number actions = flat_map (λ d. sent_by_action number d) actions
 
 -- the bytes are shown
-abbrev pub Reports : Option (List ℕ) → Type 0
-Reports None = ⊥
-Reports (Some bytes) = Unit {0}
+abbrev pub AreShown : Option (List ℕ) → Type 0
+AreShown None = ⊥
+AreShown (Some bytes) = Unit {0}
 
 -- how many items of the connection at a place were answered
 abbrev pub answer_at : ℕ → HostAction → ℕ
@@ -326,8 +326,8 @@ module _ {A R K S : Type 0} (condition : A → Condition) (unread : R → Option
         → Step p q more → Steps first (actions ++ more) q
 
   -- it goes from one position to another by some actions
-  abbrev pub GoesOn : Position A R K S → Position A R K S → Type 0
-  GoesOn first last = (actions : List HostAction) × Steps first actions last
+  abbrev pub LeadsTo : Position A R K S → Position A R K S → Type 0
+  LeadsTo first last = (actions : List HostAction) × Steps first actions last
 
   -- the largest is closed, and the log is told so, or nothing is done, where nothing has to be
   abbrev pub EvictsLargest : Position A R K S → Position A R K S → (second : ℕ) → List HostAction
@@ -336,7 +336,7 @@ module _ {A R K S : Type 0} (condition : A → Condition) (unread : R → Option
       ((q ≡ p) × MayKeep p × (actions ≡ []) × (reports ≡ reported))
       ⊎ ((at : ℕ) × (slot : Slot R K S) × Goes p q at second ends.Large slot
       × (actions ≡ Closes at slot.connection second ends.Large ∷ [])
-      × Grows reported reports (LetGo slot.connection ends.Large ∷ []))
+      × GrowsWhereShown reported reports (LetGo slot.connection ends.Large ∷ []))
 
   -- a connection was closed by one of these actions, as it was then
   pub record IsClosed (p q : Position A R K S) (actions : List HostAction) (place : ℕ) (slot : Slot R K S)
@@ -353,8 +353,8 @@ module _ {A R K S : Type 0} (condition : A → Condition) (unread : R → Option
     pub rest : Steps next later q
 
   -- it is there still, as it is, or was closed as it was then
-  abbrev pub IsLeftAs : (p q : Position A R K S) → List HostAction → (place : ℕ) → Slot R K S → Type 0
-  IsLeftAs p q actions place slot = (slot_at place q.slots ≡ Some slot)
+  abbrev pub IsLeftOrClosed : (p q : Position A R K S) → List HostAction → (place : ℕ) → Slot R K S → Type 0
+  IsLeftOrClosed p q actions place slot = (slot_at place q.slots ≡ Some slot)
       ⊎ IsClosed p q actions place slot
 
 -- what a connection does next once its turn begins, where a request waits for what is sent to it or not
@@ -432,7 +432,7 @@ module _ {A R K S : Type 0} (condition : A → Condition) (unread : R → Option
   pub record IsTurned (p q : Position A R K S) (is_full may_send : Bool) (actions : List HostAction)
       (place : ℕ) (before : Slot R K S) : Type 0 where
     pub after : Slot R K S
-    pub left : IsLeftAs condition unread taken held p q actions place after
+    pub left : IsLeftOrClosed condition unread taken held p q actions place after
     pub caused : HasCauses causes (IsLost p q actions before.connection) before after
     pub is_awaited : Bool
     pub asked : WasAwaited p q actions before.connection is_awaited
@@ -463,7 +463,7 @@ module _ {A R K S : Type 0} (condition : A → Condition) (unread : R → Option
     pub served : IsServedAt p q is_full may_send actions at (slot_at at p.slots)
     pub in_time : AreDoneAt time actions
     -- what the log was told before, and what it was told then
-    pub noted : Grows reported reports (closings_of actions)
+    pub noted : GrowsWhereShown reported reports (closings_of actions)
 
   -- Each place has its turn, in which it is served: of no connection more than one item is
   -- answered, to none more than one step of a content sent, and where too many bytes of unfinished requests are
@@ -478,16 +478,16 @@ module _ {A R K S : Type 0} (condition : A → Condition) (unread : R → Option
         → 0 < unfinished_of (slot_at place p.slots) → pieces_at place actions ≡ 0
     pub sends_once : (place : ℕ) → length (sendings_at place actions) ≤ 1
     pub sends_few : sendings_in actions ≤ most_sent
-    pub goes_by : IsNext (length p.slots) first next (sendings_in actions)
+    pub goes_by : IsNextPlace (length p.slots) first next (sendings_in actions)
     pub served : (place : ℕ) → IsServedAt p q
         (nat_lt p.limits.unfinished_bytes (unfinished_in p.slots)) (is_turn first next place) actions
         place (slot_at place p.slots)
     pub in_time : AreDoneAt time actions
-    pub noted : Grows reported reports (closings_of actions)
+    pub noted : GrowsWhereShown reported reports (closings_of actions)
     -- once each had its turn, the largest is closed where it has to be, by the last of the actions
     pub evicts : (turned : Position A R K S) × (early : List HostAction) × (last : List HostAction)
         × (so_far : Option (List Note)) × (actions ≡ early ++ last)
-        × Steps condition unread taken held p early turned × Grows reported so_far (closings_of early)
+        × Steps condition unread taken held p early turned × GrowsWhereShown reported so_far (closings_of early)
         × EvictsLargest condition unread taken held turned q time.second last so_far reports
 
 -- who is at a place has time left, and is not over

@@ -19,8 +19,8 @@ use Rattle.dep_slot.specs.declared.slot.Time.{Time}
 use Rattle.dep_slot.specs.Causes.{Causes}
 use Rattle.dep_slot.specs.Notes.{Note}
 use Rattle.dep_host.specs.Sharing.{is_turn}
-use Rattle.dep_host.specs.Hosting.{Position, HostAction, GoesRound, Step, Steps, Reports, AreOutgoing, IsEmpty, WasAwaited, slot_at, replies_to, sendings_at}
-use Rattle.dep_host.specs.Runs.{RepresentsBehind, KeepsPromise, OwesNone, Follows, StaysOpen, read_of, arrived_of, parts_of, replies_of}
+use Rattle.dep_host.specs.Hosting.{Position, HostAction, GoesRound, Step, Steps, AreShown, AreOutgoing, IsEmpty, WasAwaited, slot_at, replies_to, sendings_at}
+use Rattle.dep_host.specs.Runs.{RepresentsBehind, KeepsPromise, OwesNone, Follows, StaysOpen, read_of, arrived_of, parts_of, reply_count}
 
 -- what was read of a connection that stays open has arrived, but for what is held
 abbrev pub ReadsArrive : Type 0
@@ -40,7 +40,7 @@ module _ {A R K S : Type 0} (condition : A → Condition) (unread : R → Option
   -- what a wire took since its connection came is what was sent to that
   abbrev pub TakesWhatIsSent : Type 0
   TakesWhatIsSent = (p q : Position A R K S) (actions : List HostAction)
-      → ((sink : K) → Reports (taken sink)) → ((spool : S) → Reports (held spool)) → IsEmpty p
+      → ((sink : K) → AreShown (taken sink)) → ((spool : S) → AreShown (held spool)) → IsEmpty p
       → Steps condition unread taken held p actions q
       → (at : ℕ) (slot : Slot R K S) → slot_at at q.slots ≡ Some slot
       → reported taken held slot.wire ≡ Some (replies_to slot.connection actions)
@@ -84,7 +84,7 @@ module _ {A R K S : Type 0} (condition : A → Condition) (unread : R → Option
       → IsClean condition q.hub
       → (was : KeepsPromise condition unread taken held m first before early)
       × (now : KeepsPromise condition unread taken held q first before (early ++ late))
-      × ((number : ℕ) → replies_of number late ≡ 0
+      × ((number : ℕ) → reply_count number late ≡ 0
       → parts_of number late + length (now.owed number) ≤ length (was.owed number))
 
   -- one step after another, behind each of which a request of this connection waits that takes these files
@@ -106,7 +106,7 @@ module _ {A R K S : Type 0} (condition : A → Condition) (unread : R → Option
       → StepsAwaiting waiting files m late q → IsClean condition q.hub
       → (number : ℕ) → sends_of files (behind_at q.hub.connections.items number) ≡ true
       → (sends_of files (behind_at m.hub.connections.items number) ≡ true)
-      × (replies_of number late ≡ 0)
+      × (reply_count number late ≡ 0)
 
   -- a host that is shut lets nobody in, reads nothing, and stays so
   abbrev pub TakesNothing : Type 0

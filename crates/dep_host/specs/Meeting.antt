@@ -31,7 +31,7 @@ use Rattle.dep_host.specs.Coming.{Call, origin, slots_from, seconds_in}
 use Rattle.dep_slot.specs.Causes.{Causes}
 use Rattle.dep_slot.specs.Slots.{woken_slot}
 use Rattle.dep_host.specs.Hosting.{Comes, HostAction, Opens, GoesRound, HasTime, IsEmpty, IsVacant, IsWaiting, Refused, Stays, Steps, position, slot_at}
-use Rattle.dep_slot.specs.Notes.{Note, LetIn, Rejected, Grows}
+use Rattle.dep_slot.specs.Notes.{Note, LetIn, Rejected, GrowsWhereShown}
 use Rattle.dep_host.specs.Rounds.{EndsInTime, IsReported, is_overdue}
 
 -- a further connection can be seated at the place that is offered, and nowhere where none is
@@ -182,7 +182,7 @@ module _ {A R K S L : Type 0} (condition : A → Condition) (unread : R → Opti
     -- fewer are there that come from its address than may
     pub room : slots_from (origin client.address) p.slots.items < p.limits.address_connections
     pub stays : Stays p q
-    pub noted : Grows (notes l) (notes m) (LetIn slot.connection client.address ∷ [])
+    pub noted : GrowsWhereShown (notes l) (notes m) (LetIn slot.connection client.address ∷ [])
 
   -- a client was rejected for a reason, and its log was told
   pub record TurnsAway (p q : Host A R K S) (l m : L) (client : Client R K S) (why : Rejection)
@@ -190,7 +190,7 @@ module _ {A R K S L : Type 0} (condition : A → Condition) (unread : R → Opti
     pub keeps : Refused condition unread taken held (position p) (position q)
     pub may : MayRefuse p client why
     pub stays : Stays p q
-    pub noted : Grows (notes l) (notes m) (Rejected client.address why ∷ [])
+    pub noted : GrowsWhereShown (notes l) (notes m) (Rejected client.address why ∷ [])
 
   -- what became of a client that came to a place
   abbrev pub Admits : (p q : Host A R K S) → (l m : L) → (at : ℕ) → Client R K S
@@ -247,7 +247,7 @@ module _ {A R K S L : Type 0} (condition : A → Condition) (call_log : A → Ca
       (actions : List HostAction) (most : ℕ) (end : Ended) : Type 0 where
     pub calls : List (Call R K S)
     pub last : Call R K S
-    pub given : Grows reported_old reported_new (all_given end last calls)
+    pub given : GrowsWhereShown reported_old reported_new (all_given end last calls)
     pub each : MeetsAll p l calls actions q m
     pub steps : Steps condition unread taken held (position p) actions (position q)
     pub ends : end ≡ ended.Events → MayCall size q last × (last.event ≡ came.End)

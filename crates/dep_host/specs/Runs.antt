@@ -16,7 +16,7 @@ use Rattle.dep_outbox.specs.Wires.{reported}
 use Rattle.dep_slot.specs.declared.slot.Slot.{Slot}
 use Rattle.dep_slot.specs.ConnectionStates.{is_ended}
 use Rattle.dep_slot.specs.declared.log.Closing.{Closing}
-use Rattle.dep_host.specs.Hosting.{Position, Steps, IsEmpty, slot_at, Reports, HostAction, Opens, Takes, Replies, Sends, Declines, Closes}
+use Rattle.dep_host.specs.Hosting.{Position, Steps, IsEmpty, slot_at, AreShown, HostAction, Opens, Takes, Replies, Sends, Declines, Closes}
 
 -- The records of the actions, from what each connection held at first to what it holds now: a piece is
 -- held until the items of it are answered, and a part of what is held arrives with each answer. What is
@@ -122,9 +122,9 @@ replies_by number (Sends at n sent answer) = 0
 replies_by number (Declines at n piece moment sent) = 0
 replies_by number (Closes at n second reason) = 0
 
-abbrev pub replies_of : ℕ → List HostAction → ℕ
-replies_of number [] = 0
-replies_of number (d ∷ actions) = replies_by number d + replies_of number actions
+abbrev pub reply_count : ℕ → List HostAction → ℕ
+reply_count number [] = 0
+reply_count number (d ∷ actions) = replies_by number d + reply_count number actions
 
 -- how many steps sent a part of a content to it, behind which more is left
 abbrev pub parts_by : ℕ → HostAction → ℕ
@@ -161,14 +161,14 @@ pub record KeepsPromise {A R K S : Type 0} (condition : A → Condition) (unread
   pub owed : ℕ → List ℕ
   pub owes : (number : ℕ) → IsOwed behind.represents.world.state
       (behind_at q.hub.connections.items number) (owed number)
-  pub sent : ((sink : K) → Reports (taken sink)) → ((spool : S) → Reports (held spool)) → (at : ℕ)
+  pub sent : ((sink : K) → AreShown (taken sink)) → ((spool : S) → AreShown (held spool)) → (at : ℕ)
       → (slot : Slot R K S) → slot_at at q.slots ≡ Some slot
       → append_known (reported taken held slot.wire) (owed slot.connection)
       ≡ Some (sent_of slot.connection behind.more)
   pub read : (at : ℕ) → (slot : Slot R K S) → slot_at at q.slots ≡ Some slot
       → read_of slot.connection actions
       ≡ arrived_of slot.connection behind.more ++ behind.holds slot.connection
-  pub given : ((source : R) → Reports (unread source)) → (at : ℕ) → (slot : Slot R K S)
+  pub given : ((source : R) → AreShown (unread source)) → (at : ℕ) → (slot : Slot R K S)
       → slot_at at q.slots ≡ Some slot → IsGiven unread actions slot
 
 -- no content is still to be sent

@@ -13,15 +13,15 @@ is_turn first next place = not (nat_lt place first) && (next == 0 || nat_lt plac
 
 -- The next round sends contents on from the first place, or as many as may be were sent on, and it goes on behind
 -- these.
-abbrev pub IsNext : (places first next sent : ℕ) → Type 0
-IsNext places first next sent = (next ≡ 0)
+abbrev pub IsNextPlace : (places first next sent : ℕ) → Type 0
+IsNextPlace places first next sent = (next ≡ 0)
     ⊎ ((sent ≡ most_sent) × (first + most_sent ≤ next) × (next ≤ places))
 
 -- rounds one behind the other that send contents on from a first place, and then from these
 abbrev pub AreNexts : (places first : ℕ) → List ℕ → Type 0
 AreNexts places first [] = Unit {0}
 AreNexts places first (next ∷ more) =
-    ((sent : ℕ) × IsNext places first next sent) × AreNexts places next more
+    ((sent : ℕ) × IsNextPlace places first next sent) × AreNexts places next more
 
 -- in one of these it is the turn of a place
 abbrev pub IsTurnInOne : (first : ℕ) → List ℕ → (place : ℕ) → Type 0

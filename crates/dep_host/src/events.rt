@@ -2,7 +2,7 @@
 ghost use Rattle.std.specs.Prelude.{◌≡◌, IsTrue, Bool, List, [], ◌∷◌, Option, None};
 ghost use Rattle.dep_host.specs.Coming.{IsFresh, origin, comes_from};
 ghost use Rattle.dep_host.specs.Meeting.{rejection_for};
-ghost use Rattle.dep_slot.specs.Notes.{Rejected, Grows};
+ghost use Rattle.dep_slot.specs.Notes.{Rejected, GrowsWhereShown};
 
 use dep_hub::ConnectFault;
 use dep_outbox::{Sink, Source, Spool};
@@ -56,7 +56,7 @@ pub(crate) fn reject<R: Drop, K: Drop, S: Drop, L: HostLog>(
     log: &mut L,
 ) -> Rejection
     ensures same { result ≡ refusal }
-    ensures noted { Grows (L.notes log.old) (L.notes log.new)
+    ensures noted { GrowsWhereShown (L.notes log.old) (L.notes log.new)
         (Rejected client.address refusal ∷ []) }
 {
     log.refused(client.address, refusal);
@@ -99,7 +99,7 @@ pub trait Events<R: Source, K: Sink, S: Spool> {
     /// the host can't go on at once, and not for long, since a `Round` closes who is silent.
     fn next(&mut self, vacancy: Option<usize>, is_busy: bool) -> Event<R, K, S>
         ensures fresh { IsFresh K.taken S.held result }
-        ensures given { Grows (given self.old) (given self.new)
+        ensures given { GrowsWhereShown (given self.old) (given self.new)
             (record { offer = vacancy; is_busy = is_busy; event = result } ∷ []) }
         ensures end { result ≡ Event.End → IsTrue (is_over self.new) };
 }

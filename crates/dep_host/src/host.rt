@@ -46,7 +46,7 @@ impl<A: Archive, R: Source + Drop, K: Sink + Drop, S: Spool + Drop> Host<A, R, K
     ghost use Rattle.dep_host.specs.Coming.{origin, slots_from};
     ghost use Rattle.dep_host.specs.Rounds.{is_overdue};
     ghost use Rattle.dep_slot.specs.Causes.{causes_of};
-    ghost use Rattle.dep_slot.specs.Notes.{Grows};
+    ghost use Rattle.dep_slot.specs.Notes.{GrowsWhereShown};
     ghost use Rattle.dep_host.specs.Meeting.{Admits, IsAsked, IsOffer, MayEnd, Stops, Wakes, refusal_of};
 
     /// A host without connections, which are bounded by the limits. Where memory is refused the hub is handed back.
@@ -335,7 +335,7 @@ impl<A: Archive, R: Source + Drop, K: Sink + Drop, S: Spool + Drop> Host<A, R, K
             (slot_at at self.old.slots.items) }
         ensures goes { Closed A.condition R.unread K.taken S.held self.old self.new at second
             closing }
-        ensures noted { Grows (L.notes log.old) (L.notes log.new)
+        ensures noted { GrowsWhereShown (L.notes log.old) (L.notes log.new)
             (farewell closing (slot_at at self.old.slots.items)) }
     {
         if let Some(slot) = self.slots[at].take() {

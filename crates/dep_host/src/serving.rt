@@ -4,7 +4,7 @@ ghost use Rattle.std.specs.List.{AllByRecursion};
 ghost use Rattle.dep_host.specs.Coming.{IsFresh, seconds_of};
 ghost use Rattle.dep_slot.specs.Causes.{causes_of};
 ghost use Rattle.dep_host.specs.Rounds.{is_overdue};
-ghost use Rattle.dep_host.specs.Hosting.{HostAction, GoesOn, position};
+ghost use Rattle.dep_host.specs.Hosting.{HostAction, LeadsTo, position};
 ghost use Rattle.dep_host.specs.Meeting.{AsksOn, IsIdle, IsMet, IsOffer, MayEnd, Meets, Met, most_events};
 ghost use Rattle.dep_host.specs.Runs.{Promises};
 
@@ -48,7 +48,7 @@ pub fn serve<
     ensures met { (actions : List HostAction) × Met A.condition A.call_log R.unread K.taken S.held S.size
         (causes_of R.halts K.halts S.failures) L.notes (E.given events.old) (E.given events.new)
         host.old host.new log.old log.new actions most_events result }
-    ensures goes { GoesOn A.condition R.unread K.taken S.held (position host.old)
+    ensures goes { LeadsTo A.condition R.unread K.taken S.held (position host.old)
         (position host.new) }
     // The archive promise, for all connections.
     ensures promise { Promises A.condition R.unread K.taken S.held (position host.old)

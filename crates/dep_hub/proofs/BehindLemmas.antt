@@ -17,7 +17,7 @@ use Rattle.dep_hub.specs.Representing.{intake_of, store_of, IsClean, IsHonest}
 use Rattle.dep_hub.specs.Holding.{IsHeldAs, KeepsHolding, with_held}
 use Rattle.dep_answers.specs.declared.performed.StoredFile.{StoredFile}
 use Rattle.std.specs.List.{remove}
-use Rattle.dep_hub.specs.Numbers.{index_of, Ascends}
+use Rattle.dep_hub.specs.Numbers.{place_of_number, Ascends}
 use Rattle.dep_exchange.specs.Owing.{HasBehind, IsPrefixBehind, IsLater, TakesFew}
 use Rattle.dep_hub.specs.Owed.{IsOwed, later_than, bytes_later}
 use Rattle.dep_hub.specs.RepresentsOwing.{IsPaid, OthersStay, SendsOn, behind_at, is_part}
@@ -51,40 +51,40 @@ some_suc_zero (Some j) e = cc
 
 -- what is behind the reply of the connection at the index
 behind_some_at : (n i : ℕ) (d : Connection) (cs : List Connection) (c : Connection) (b : Bool) → b ≡ (d.number == n)
-    → (if b then Some 0 else option_map suc (index_of n cs)) ≡ Some i → c ≡ get_or (d ∷ cs) i c
-    → ((j : ℕ) → index_of n cs ≡ Some j → c ≡ get_or cs j c → behind_at cs n ≡ c.behind)
+    → (if b then Some 0 else option_map suc (place_of_number n cs)) ≡ Some i → c ≡ get_or (d ∷ cs) i c
+    → ((j : ℕ) → place_of_number n cs ≡ Some j → c ≡ get_or cs j c → behind_at cs n ≡ c.behind)
     → (if b then d.behind else behind_at cs n) ≡ c.behind
 behind_some_at n zero d cs c true e i f k = ap (λ (x : Connection). x.behind) (sym f)
 behind_some_at n (suc i) d cs c true e i' f k = cc
-behind_some_at n zero d cs c false e i' f k = absurd (some_suc_zero (index_of n cs) i')
-behind_some_at n (suc i) d cs c false e i' f k = k i (some_suc (index_of n cs) i i') f
+behind_some_at n zero d cs c false e i' f k = absurd (some_suc_zero (place_of_number n cs) i')
+behind_some_at n (suc i) d cs c false e i' f k = k i (some_suc (place_of_number n cs) i i') f
 
-pub behind_some : (n i : ℕ) (cs : List Connection) (c : Connection) → index_of n cs ≡ Some i → c ≡ get_or cs i c → behind_at cs n ≡ c.behind
+pub behind_some : (n i : ℕ) (cs : List Connection) (c : Connection) → place_of_number n cs ≡ Some i → c ≡ get_or cs i c → behind_at cs n ≡ c.behind
 behind_some n i [] c e f = cc
 behind_some n i (d ∷ cs) c e f = behind_some_at n i d cs c (d.number == n) refl e f (λ j. behind_some n j cs c)
 
 behind_none_at : (n : ℕ) (c : Connection) (cs : List Connection) (b : Bool)
-    → (if b then Some 0 else option_map suc (index_of n cs)) ≡ None → (index_of n cs ≡ None → behind_at cs n ≡ Nothing)
+    → (if b then Some 0 else option_map suc (place_of_number n cs)) ≡ None → (place_of_number n cs ≡ None → behind_at cs n ≡ Nothing)
     → (if b then c.behind else behind_at cs n) ≡ Nothing
 behind_none_at n c cs true i k = cc
-behind_none_at n c cs false i k = k (some_not_none (index_of n cs) i)
+behind_none_at n c cs false i k = k (some_not_none (place_of_number n cs) i)
 
 -- nothing is behind a reply of who is not there
-pub behind_none : (n : ℕ) (cs : List Connection) → index_of n cs ≡ None → behind_at cs n ≡ Nothing
+pub behind_none : (n : ℕ) (cs : List Connection) → place_of_number n cs ≡ None → behind_at cs n ≡ Nothing
 behind_none n [] e = refl
 behind_none n (c ∷ cs) e = behind_none_at n c cs (c.number == n) e (behind_none n cs)
 
 -- a connection is changed where it stands
 behind_set_at : (n i : ℕ) (c : Connection) (cs : List Connection) (d : Connection) (b : Bool) → b ≡ (c.number == n)
-    → (if b then Some 0 else option_map suc (index_of n cs)) ≡ Some i → d.number ≡ n → (m : ℕ)
-    → ((j : ℕ) → index_of n cs ≡ Some j → behind_at (set cs j d) m ≡ (if m == n then d.behind else behind_at cs m))
+    → (if b then Some 0 else option_map suc (place_of_number n cs)) ≡ Some i → d.number ≡ n → (m : ℕ)
+    → ((j : ℕ) → place_of_number n cs ≡ Some j → behind_at (set cs j d) m ≡ (if m == n then d.behind else behind_at cs m))
     → behind_at (set (c ∷ cs) i d) m ≡ (if m == n then d.behind else behind_at (c ∷ cs) m)
 behind_set_at n zero c cs d true e i f m k = grind (arith, nat_tests)
 behind_set_at n (suc i) c cs d true e i' f m k = cc
-behind_set_at n zero c cs d false e i' f m k = absurd (some_suc_zero (index_of n cs) i')
-behind_set_at n (suc i) c cs d false e i' f m k = let h = k i (some_suc (index_of n cs) i i') in grind (arith, nat_tests, h)
+behind_set_at n zero c cs d false e i' f m k = absurd (some_suc_zero (place_of_number n cs) i')
+behind_set_at n (suc i) c cs d false e i' f m k = let h = k i (some_suc (place_of_number n cs) i i') in grind (arith, nat_tests, h)
 
-pub behind_set : (n i : ℕ) (cs : List Connection) (d : Connection) → index_of n cs ≡ Some i → d.number ≡ n
+pub behind_set : (n i : ℕ) (cs : List Connection) (d : Connection) → place_of_number n cs ≡ Some i → d.number ≡ n
     → (m : ℕ) → behind_at (set cs i d) m ≡ (if m == n then d.behind else behind_at cs m)
 behind_set n i [] d e f m = cc
 behind_set n i (c ∷ cs) d e f m = behind_set_at n i c cs d (c.number == n) refl e f m (λ j h. behind_set n j cs d h f m)
@@ -211,7 +211,7 @@ module _ {A : Type 0} (condition : A → Condition) (old new : Hub A) (n : ℕ) 
       (λ _. refl) left (few_none taken) (λ files sends. sends)
 
 -- one connection alone has something else behind its reply
-module _ (n i : ℕ) (old : List Connection) (c : Connection) (b : Behind) (index : index_of n old ≡ Some i) (item : c ≡ get_or old i c) where
+module _ (n i : ℕ) (old : List Connection) (c : Connection) (b : Behind) (index : place_of_number n old ≡ Some i) (item : c ≡ get_or old i c) where
   pub intakes_stay : (new : List Connection) → new ≡ set old i (record { number = c.number; intake = c.intake; behind = b })
       → (m : ℕ) → intake_of new m ≡ intake_of old m
   intakes_stay new changed m =
@@ -242,7 +242,7 @@ pub intakes_back : (i : ℕ) (cs : List Connection) (c : Connection) → c ≡ g
 intakes_back i cs c e m = ap (λ (l : List Connection). intake_of l m) (set_here i cs c e)
 
 -- what a connection is still to be sent stays, since nothing is left of it
-module _ {A : Type 0} (condition : A → Condition) (old new : Hub A) (n i : ℕ) (kept : Connection) (index : index_of n old.connections.items ≡ Some i)
+module _ {A : Type 0} (condition : A → Condition) (old new : Hub A) (n i : ℕ) (kept : Connection) (index : place_of_number n old.connections.items ≡ Some i)
     (item : kept ≡ get_or old.connections.items i kept) (config : new.config ≡ old.config) (store : new.store ≡ old.store)
     (changed : new.connections.items ≡ set old.connections.items i kept) (settles : Settles (condition old.store)) where
   pub nothing_sent : (answer : SentOn) (taken : Option (List ℕ)) (failures : ℕ) → ((s : State) (owed : List ℕ) → IsOwed s kept.behind owed → IsPaid answer [] owed)
@@ -298,7 +298,7 @@ behind_push [] d m e = ap (λ (b : Behind). if d.number == m then b else Nothing
 behind_push (c ∷ cs) d m e = ap (λ (b : Behind). if c.number == m then c.behind else b) (behind_push cs d m e)
 
 -- an intake changes alone
-pub behind_as_was : (n i : ℕ) (cs : List Connection) (c : Connection) → index_of n cs ≡ Some i → c ≡ get_or cs i c → (now : Reading) → (m : ℕ)
+pub behind_as_was : (n i : ℕ) (cs : List Connection) (c : Connection) → place_of_number n cs ≡ Some i → c ≡ get_or cs i c → (now : Reading) → (m : ℕ)
     → behind_at (set cs i (record { number = c.number; intake = now; behind = c.behind })) m ≡ behind_at cs m
 behind_as_was n i cs c index item now m =
     behinds_are n i cs c c.behind index item now _ refl m
@@ -316,17 +316,17 @@ behind_below low high n (c ∷ cs) a l =
     let h = behind_below (c.number + 1) high n cs a.1 more in grind (arith, nat_tests, h)
 
 behind_remove_at : (n low high i : ℕ) (c : Connection) (cs : List Connection) (b : Bool) → b ≡ (c.number == n)
-    → (if b then Some 0 else option_map suc (index_of n cs)) ≡ Some i → Ascends low (c ∷ cs) high → (m : ℕ)
-    → ((j : ℕ) → index_of n cs ≡ Some j → behind_at (remove cs j) m ≡ (if m == n then Nothing else behind_at cs m))
+    → (if b then Some 0 else option_map suc (place_of_number n cs)) ≡ Some i → Ascends low (c ∷ cs) high → (m : ℕ)
+    → ((j : ℕ) → place_of_number n cs ≡ Some j → behind_at (remove cs j) m ≡ (if m == n then Nothing else behind_at cs m))
     → behind_at (remove (c ∷ cs) i) m ≡ (if m == n then Nothing else behind_at (c ∷ cs) m)
 behind_remove_at n low high zero c cs true e i a m k =
     let h = behind_below (c.number + 1) high n cs a.1 in grind (arith, nat_tests, h)
 behind_remove_at n low high (suc i) c cs true e i' a m k = cc
-behind_remove_at n low high zero c cs false e i' a m k = absurd (some_suc_zero (index_of n cs) i')
-behind_remove_at n low high (suc i) c cs false e i' a m k = let h = k i (some_suc (index_of n cs) i i') in grind (arith, nat_tests, h)
+behind_remove_at n low high zero c cs false e i' a m k = absurd (some_suc_zero (place_of_number n cs) i')
+behind_remove_at n low high (suc i) c cs false e i' a m k = let h = k i (some_suc (place_of_number n cs) i i') in grind (arith, nat_tests, h)
 
 -- a connection is removed
-pub behind_remove : (n low high i : ℕ) (cs : List Connection) → index_of n cs ≡ Some i → Ascends low cs high
+pub behind_remove : (n low high i : ℕ) (cs : List Connection) → place_of_number n cs ≡ Some i → Ascends low cs high
     → (m : ℕ) → behind_at (remove cs i) m ≡ (if m == n then Nothing else behind_at cs m)
 behind_remove n low high i [] e a m = cc
 behind_remove n low high i (c ∷ cs) e a m = behind_remove_at n low high i c cs (c.number == n) refl e a m (λ j h. behind_remove n (c.number + 1) high j cs h a.1 m)

@@ -5,7 +5,7 @@ use Rattle.std.specs.Option.{option_map}
 use Rattle.std.specs.Prelude.{IsSome}
 use Rattle.std.proofs.lemmas.Bool.{eq-eqb}
 use Rattle.std.proofs.lemmas.Bool.Decides.{nat_tests}
-use Rattle.dep_hub.specs.Numbers.{index_of, Ascends}
+use Rattle.dep_hub.specs.Numbers.{place_of_number, Ascends}
 use Rattle.dep_hub.specs.Representing.{intake_of}
 use Rattle.dep_hub.specs.declared.connections.Connection.{Connection}
 
@@ -19,12 +19,12 @@ found_next : (i : ℕ) (b : Bool) (o p : Option ℕ) → (if b then Some 0 else 
 found_next i true o p e k = cc
 found_next i false o p e k = ap (option_map suc) (k (some_not_none o e))
 
-pub found_at : (n i : ℕ) (cs : List Connection) (c : Connection) → i < length cs → get_or cs i c ≡ c → index_of n (take i cs) ≡ None → c.number ≡ n → index_of n cs ≡ Some i
+pub found_at : (n i : ℕ) (cs : List Connection) (c : Connection) → i < length cs → get_or cs i c ≡ c → place_of_number n (take i cs) ≡ None → c.number ≡ n → place_of_number n cs ≡ Some i
 found_at n i [] c l at none e = absurd (omega (arith, l))
 found_at n zero (d ∷ cs) c l at none e =
-    ap (λ b. if b then Some 0 else option_map suc (index_of n cs)) (eq-eqb d.number n (ap (λ (x : Connection). x.number) at ∙ e))
+    ap (λ b. if b then Some 0 else option_map suc (place_of_number n cs)) (eq-eqb d.number n (ap (λ (x : Connection). x.number) at ∙ e))
 found_at n (suc i) (d ∷ cs) c l at none e =
-    found_next i (d.number == n) (index_of n (take i cs)) (index_of n cs) none (λ before. found_at n i cs c (omega (arith, l)) at before e)
+    found_next i (d.number == n) (place_of_number n (take i cs)) (place_of_number n cs) none (λ before. found_at n i cs c (omega (arith, l)) at before e)
 
 -- none of those so far has it
 none_next : (b : Bool) (o p : Option ℕ) → (if b then Some 0 else option_map suc o) ≡ None → (o ≡ None → p ≡ None)
@@ -32,29 +32,29 @@ none_next : (b : Bool) (o p : Option ℕ) → (if b then Some 0 else option_map 
 none_next true o p e k = cc
 none_next false o p e k = ap (option_map suc) (k (some_not_none o e))
 
-none_then : (n i : ℕ) (cs : List Connection) (c : Connection) → i < length cs → get_or cs i c ≡ c → index_of n (take i cs) ≡ None → (c.number == n) ≡ false
-    → index_of n (take (suc i) cs) ≡ None
+none_then : (n i : ℕ) (cs : List Connection) (c : Connection) → i < length cs → get_or cs i c ≡ c → place_of_number n (take i cs) ≡ None → (c.number == n) ≡ false
+    → place_of_number n (take (suc i) cs) ≡ None
 none_then n i [] c l at none e = absurd (omega (arith, l))
 none_then n zero (d ∷ cs) c l at none e =
     ap (λ b. if b then Some 0 else None) (ap (λ (x : Connection). x.number == n) at ∙ e)
 none_then n (suc i) (d ∷ cs) c l at none e =
-    none_next (d.number == n) (index_of n (take i cs)) (index_of n (take (suc i) cs)) none (λ before. none_then n i cs c (omega (arith, l)) at before e)
+    none_next (d.number == n) (place_of_number n (take i cs)) (place_of_number n (take (suc i) cs)) none (λ before. none_then n i cs c (omega (arith, l)) at before e)
 
-pub none_so_far : (n i : ℕ) (cs : List Connection) (c : Connection) → i < length cs → get_or cs i c ≡ c → index_of n (take i cs) ≡ None → (c.number ≡ n → ⊥)
-    → index_of n (take (i + 1) cs) ≡ None
+pub none_so_far : (n i : ℕ) (cs : List Connection) (c : Connection) → i < length cs → get_or cs i c ≡ c → place_of_number n (take i cs) ≡ None → (c.number ≡ n → ⊥)
+    → place_of_number n (take (i + 1) cs) ≡ None
 none_so_far n i cs c l at none other =
     let more : suc i ≡ i + 1 = omega arith in
     let differs : (c.number == n) ≡ false = grind (arith, nat_tests, other) in
-    subst (λ (k : ℕ). index_of n (take k cs) ≡ None) more (none_then n i cs c l at none differs)
+    subst (λ (k : ℕ). place_of_number n (take k cs) ≡ None) more (none_then n i cs c l at none differs)
 
 none_at : (n : ℕ) (c : Connection) (cs : List Connection) (b : Bool) → b ≡ (c.number == n)
-    → (if b then Some 0 else option_map suc (index_of n cs)) ≡ None → (index_of n cs ≡ None → intake_of cs n ≡ None)
+    → (if b then Some 0 else option_map suc (place_of_number n cs)) ≡ None → (place_of_number n cs ≡ None → intake_of cs n ≡ None)
     → (if b then Some c.intake else intake_of cs n) ≡ None
 none_at n c cs true e i k = cc
-none_at n c cs false e i k = k (some_not_none (index_of n cs) i)
+none_at n c cs false e i k = k (some_not_none (place_of_number n cs) i)
 
 -- who is not there has no index, and the other way round
-pub index_none : (n : ℕ) (cs : List Connection) → index_of n cs ≡ None → intake_of cs n ≡ None
+pub index_none : (n : ℕ) (cs : List Connection) → place_of_number n cs ≡ None → intake_of cs n ≡ None
 index_none n [] e = refl
 index_none n (c ∷ cs) e = none_at n c cs (c.number == n) refl e (index_none n cs)
 
@@ -72,15 +72,15 @@ some_suc_zero (Some j) e = cc
 
 -- the connection at the index
 some_at : (n i : ℕ) (d : Connection) (cs : List Connection) (c : Connection) (b : Bool) → b ≡ (d.number == n)
-    → (if b then Some 0 else option_map suc (index_of n cs)) ≡ Some i → c ≡ get_or (d ∷ cs) i c
-    → ((j : ℕ) → index_of n cs ≡ Some j → c ≡ get_or cs j c → (c.number ≡ n) × (intake_of cs n ≡ Some c.intake))
+    → (if b then Some 0 else option_map suc (place_of_number n cs)) ≡ Some i → c ≡ get_or (d ∷ cs) i c
+    → ((j : ℕ) → place_of_number n cs ≡ Some j → c ≡ get_or cs j c → (c.number ≡ n) × (intake_of cs n ≡ Some c.intake))
     → (c.number ≡ n) × ((if b then Some d.intake else intake_of cs n) ≡ Some c.intake)
 some_at n zero d cs c true e i f k = (grind (arith, nat_tests), ap (λ (x : Connection). Some x.intake) (sym f))
 some_at n (suc i) d cs c true e i' f k = cc
-some_at n zero d cs c false e i' f k = absurd (some_suc_zero (index_of n cs) i')
-some_at n (suc i) d cs c false e i' f k = k i (some_suc (index_of n cs) i i') f
+some_at n zero d cs c false e i' f k = absurd (some_suc_zero (place_of_number n cs) i')
+some_at n (suc i) d cs c false e i' f k = k i (some_suc (place_of_number n cs) i i') f
 
-pub index_some : (n i : ℕ) (cs : List Connection) (c : Connection) → index_of n cs ≡ Some i → c ≡ get_or cs i c
+pub index_some : (n i : ℕ) (cs : List Connection) (c : Connection) → place_of_number n cs ≡ Some i → c ≡ get_or cs i c
     → (c.number ≡ n) × (intake_of cs n ≡ Some c.intake)
 index_some n i [] c e f = cc
 index_some n i (d ∷ cs) c e f = some_at n i d cs c (d.number == n) refl e f (λ j. index_some n j cs c)
@@ -104,15 +104,15 @@ pushed_there cs d a =
 
 -- a connection is changed where it stands
 set_at : (n i : ℕ) (c : Connection) (cs : List Connection) (d : Connection) (b : Bool) → b ≡ (c.number == n)
-    → (if b then Some 0 else option_map suc (index_of n cs)) ≡ Some i → d.number ≡ n → (m : ℕ)
-    → ((j : ℕ) → index_of n cs ≡ Some j → intake_of (set cs j d) m ≡ (if m == n then Some d.intake else intake_of cs m))
+    → (if b then Some 0 else option_map suc (place_of_number n cs)) ≡ Some i → d.number ≡ n → (m : ℕ)
+    → ((j : ℕ) → place_of_number n cs ≡ Some j → intake_of (set cs j d) m ≡ (if m == n then Some d.intake else intake_of cs m))
     → intake_of (set (c ∷ cs) i d) m ≡ (if m == n then Some d.intake else intake_of (c ∷ cs) m)
 set_at n zero c cs d true e i f m k = grind (arith, nat_tests)
 set_at n (suc i) c cs d true e i' f m k = cc
-set_at n zero c cs d false e i' f m k = absurd (some_suc_zero (index_of n cs) i')
-set_at n (suc i) c cs d false e i' f m k = let h = k i (some_suc (index_of n cs) i i') in grind (arith, nat_tests, h)
+set_at n zero c cs d false e i' f m k = absurd (some_suc_zero (place_of_number n cs) i')
+set_at n (suc i) c cs d false e i' f m k = let h = k i (some_suc (place_of_number n cs) i i') in grind (arith, nat_tests, h)
 
-pub intake_set : (n i : ℕ) (cs : List Connection) (d : Connection) → index_of n cs ≡ Some i → d.number ≡ n
+pub intake_set : (n i : ℕ) (cs : List Connection) (d : Connection) → place_of_number n cs ≡ Some i → d.number ≡ n
     → (m : ℕ) → intake_of (set cs i d) m ≡ (if m == n then Some d.intake else intake_of cs m)
 intake_set n i [] d e f m = cc
 intake_set n i (c ∷ cs) d e f m = set_at n i c cs d (c.number == n) refl e f m (λ j h. intake_set n j cs d h f m)
@@ -139,16 +139,16 @@ absent_above low high n (c ∷ cs) a l =
 
 -- a connection is removed
 remove_at : (n low high i : ℕ) (c : Connection) (cs : List Connection) (b : Bool) → b ≡ (c.number == n)
-    → (if b then Some 0 else option_map suc (index_of n cs)) ≡ Some i → Ascends low (c ∷ cs) high → (m : ℕ)
-    → ((j : ℕ) → index_of n cs ≡ Some j → intake_of (remove cs j) m ≡ (if m == n then None else intake_of cs m))
+    → (if b then Some 0 else option_map suc (place_of_number n cs)) ≡ Some i → Ascends low (c ∷ cs) high → (m : ℕ)
+    → ((j : ℕ) → place_of_number n cs ≡ Some j → intake_of (remove cs j) m ≡ (if m == n then None else intake_of cs m))
     → intake_of (remove (c ∷ cs) i) m ≡ (if m == n then None else intake_of (c ∷ cs) m)
 remove_at n low high zero c cs true e i a m k =
     let h = absent_below (c.number + 1) high n cs a.1 in grind (arith, nat_tests, h)
 remove_at n low high (suc i) c cs true e i' a m k = cc
-remove_at n low high zero c cs false e i' a m k = absurd (some_suc_zero (index_of n cs) i')
-remove_at n low high (suc i) c cs false e i' a m k = let h = k i (some_suc (index_of n cs) i i') in grind (arith, nat_tests, h)
+remove_at n low high zero c cs false e i' a m k = absurd (some_suc_zero (place_of_number n cs) i')
+remove_at n low high (suc i) c cs false e i' a m k = let h = k i (some_suc (place_of_number n cs) i i') in grind (arith, nat_tests, h)
 
-pub intake_remove : (n low high i : ℕ) (cs : List Connection) → index_of n cs ≡ Some i → Ascends low cs high
+pub intake_remove : (n low high i : ℕ) (cs : List Connection) → place_of_number n cs ≡ Some i → Ascends low cs high
     → (m : ℕ) → intake_of (remove cs i) m ≡ (if m == n then None else intake_of cs m)
 intake_remove n low high i [] e a m = cc
 intake_remove n low high i (c ∷ cs) e a m = remove_at n low high i c cs (c.number == n) refl e a m (λ j h. intake_remove n (c.number + 1) high j cs h a.1 m)

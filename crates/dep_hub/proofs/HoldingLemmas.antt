@@ -9,11 +9,11 @@ use Rattle.dep_exchange.specs.Machine.{out_of_memory}
 use Rattle.dep_exchange.specs.Records.{Connect, Close, Arrive, Record, stopped, first_world, connects, closes, arrives, Run, goes_on, stops, Line, Absent, Live, World, with_line}
 use Rattle.dep_exchange.specs.Sending.{Outside, outside}
 use Rattle.dep_exchange.specs.Serving.{IsDeadIfShut}
-use Rattle.dep_exchange.specs.Nexts.{RunsOut, AnswersNext, arrived_by}
+use Rattle.dep_exchange.specs.Nexts.{RunsOut, AnswersNext, arrived_after}
 use Rattle.dep_hub.specs.Representing.{intake_of, IsKeptAs, RepresentsAt, store_of, IsClean}
 use Rattle.dep_exchange.specs.Archives.{KeepsAll}
 use Rattle.dep_hub.specs.Holding.{RestsOn, RepresentsOn, with_held, fed, IsHeldAs, Outcome, IsNext, IsRefused, KeepsHolding, RepresentsHolding, RepresentsHoldingAfter, LineTransition, PartArrives, AnswersOver, ComesToNext, OffersTo}
-use Rattle.dep_hub.specs.Numbers.{index_of, Ascends}
+use Rattle.dep_hub.specs.Numbers.{place_of_number, Ascends}
 use Rattle.dep_exchange.specs.declared.arrived.Arrived.{Arrived}
 use Rattle.dep_exchange.specs.declared.arrived.Arrived.TheVariants as came
 use Rattle.dep_exchange.specs.declared.next.Next.{Next}
@@ -87,7 +87,7 @@ keeps limit line held reading k = record { head_only = k.0; keeps = k.1; is_fed 
 
 -- ---- the connection of a call
 
-module _ (limit n i : ℕ) (old : List Connection) (c : Connection) (now : Reading) (b : Behind) (index : index_of n old ≡ Some i) (item : c ≡ get_or old i c) where
+module _ (limit n i : ℕ) (old : List Connection) (c : Connection) (now : Reading) (b : Behind) (index : place_of_number n old ≡ Some i) (item : c ≡ get_or old i c) where
   intakes : (m : ℕ) → intake_of (set old i (record { number = c.number; intake = now; behind = b })) m ≡ (if m == n then Some now else intake_of old m)
   intakes m = intake_set n i old (record { number = c.number; intake = now; behind = b }) index (index_some n i old c index item).0 m
 
@@ -111,7 +111,7 @@ module _ (limit n i : ℕ) (old : List Connection) (c : Connection) (now : Readi
       (kept m))
 
 module _ {A : Type 0} (condition : A → Condition) (old new : Hub A) (n i : ℕ) (c : Connection) (now : Reading) (b : Behind)
-    (index : index_of n old.connections.items ≡ Some i) (item : c ≡ get_or old.connections.items i c)
+    (index : place_of_number n old.connections.items ≡ Some i) (item : c ≡ get_or old.connections.items i c)
     (config : new.config ≡ old.config)
     (changed : new.connections.items ≡ set old.connections.items i (record { number = c.number; intake = now; behind = b })) where
   here : (lines : ℕ → Line) (held : ℕ → List ℕ) → KeepsHolding condition old lines held → IsHeldAs old.config.max_upload (lines n) (held n) (Some c.intake)
@@ -176,9 +176,9 @@ module _ {A : Type 0} (condition : A → Condition) (old new : Hub A) (n i : ℕ
 
     this : (moment : ℕ) → now.limit ≡ c.intake.limit → (IsDeadIfShut c.intake → IsDeadIfShut now) → (answer : Next)
         → AnswersNext old.config c.intake moment Before After now.place answer
-        → AnswersOver condition taken takes failures failures_after old new n (λ held. held) moment (arrived_by answer) (IsNext answer)
+        → AnswersOver condition taken takes failures failures_after old new n (λ held. held) moment (arrived_after answer) (IsNext answer)
     this moment limit dead answer g =
-        answers_over c.intake (λ held. held) moment (arrived_by answer) (IsNext answer)
+        answers_over c.intake (λ held. held) moment (arrived_after answer) (IsNext answer)
         (over_next old.config moment Before After c.intake now settles limit dead answer g) (λ lim line held k. k)
 
     -- the next item is answered

@@ -8,7 +8,7 @@ use Rattle.dep_types.specs.Writing.{HasRisen}
 use Rattle.dep_types.specs.declared.config.Config.{Config}
 use Rattle.dep_head.specs.Head.{head_end}
 use Rattle.dep_message.specs.Places.{Place, Open, Shut, Reading, IsOpen, HasBytes, place_with}
-use Rattle.dep_message.specs.Stream.{Item, Reads, Waits}
+use Rattle.dep_message.specs.Stream.{Item, ReadsItems, Waits}
 use Rattle.dep_message.proofs.Reading.{reads_more, reads_append}
 use Rattle.dep_types.specs.Conditions.{Condition, Represents, Leaves}
 use Rattle.dep_exchange.specs.Machine.{Serves, serves_all, step_fails, gives_up, given_up, cut_short, answer_at_place}
@@ -20,7 +20,7 @@ use Rattle.dep_exchange.specs.Serving.{IsDeadIfShut, arrival_of, ServesFrom, Ser
 use Rattle.dep_hub.specs.Representing.{intake_of, KeepsRest, IsKeptAs, RepresentsAt, RepresentsAfter, StopsAfter, Adds, Transition, ArrivesTo, ArrivesShut, ArrivesOver, ComesTo, store_of, IsClean, IsHonest}
 use Rattle.dep_exchange.specs.Shut.{IfShut}
 use Rattle.dep_hub.specs.Claims.{is_any_pending, is_any_waiting}
-use Rattle.dep_hub.specs.Numbers.{index_of, Ascends, Ascends-prop}
+use Rattle.dep_hub.specs.Numbers.{place_of_number, Ascends, Ascends-prop}
 use Rattle.dep_exchange.specs.declared.arrived.Arrived.{Arrived}
 use Rattle.dep_exchange.specs.declared.arrived.Arrived.TheVariants.{Open as StaysOpen, Closed, Cut, NoSuch}
 use Rattle.dep_hub.specs.declared.connections.Connection.{Connection}
@@ -86,7 +86,7 @@ open_shut (Open continued rest) o e = cc
 open_shut Shut o e = o
 
 -- nothing is read behind an end
-ends_read : (limit : ℕ) (items : List Item) (item : Item) (at : Place) → Reads limit Shut (items ++ item ∷ []) at → ⊥
+ends_read : (limit : ℕ) (items : List Item) (item : Item) (at : Place) → ReadsItems limit Shut (items ++ item ∷ []) at → ⊥
 ends_read limit [] item at r = r.1
 ends_read limit (x ∷ items) item at r = r.1
 
@@ -98,7 +98,7 @@ nothing_at : (s : State) (at : Place) → at ≡ Shut → Nothing s [] s at (ans
 nothing_at s at e = subst (λ p. Nothing s [] s p (answer_at_place p)) (sym e) nothing
 
 serves_ended : {config : Config} {s left : State} {moment : ℕ} {sent : List ℕ} {at : Place} {answer : Arrived} (limit : ℕ)
-    → Serves config (λ items at. Reads limit Shut items at) s moment sent left at answer → Nothing s sent left at answer
+    → Serves config (λ items at. ReadsItems limit Shut items at) s moment sent left at answer → Nothing s sent left at answer
 serves_ended {s = s} limit (serves_all [] {at} r w) = nothing_at s at r
 serves_ended limit (serves_all (x ∷ xs) r w) = absurd r.1
 serves_ended limit (step_fails items item at r x) = absurd (ends_read limit items item at r)
@@ -106,7 +106,7 @@ serves_ended limit (gives_up [] at r b x) = absurd (subst HasBytes r b)
 serves_ended limit (gives_up (x ∷ xs) at r b y) = absurd r.1
 
 ended_left : {config : Config} {s left : State} {moment : ℕ} {sent : List ℕ} {at : Place} {answer : Arrived} (limit : ℕ)
-    (v : Serves config (λ items at. Reads limit Shut items at) s moment sent left at answer) (found : State) → LeftByServing v found → found ≡ s
+    (v : Serves config (λ items at. ReadsItems limit Shut items at) s moment sent left at answer) (found : State) → LeftByServing v found → found ≡ s
 ended_left limit (serves_all [] {at} r w) found h = h
 ended_left limit (serves_all (x ∷ xs) r w) found h = absurd r.1
 ended_left limit (step_fails items item at r x) found h = absurd (ends_read limit items item at r)
@@ -115,7 +115,7 @@ ended_left limit (gives_up (x ∷ xs) at r b y) found h = absurd r.1
 
 -- what was left goes on with the piece
 pub beyond : (limit : ℕ) (stream piece : List ℕ) (reading : Reading) → KeepsRest limit stream reading
-    → (items : List Item) (at : Place) → Reads limit (place_with reading.place piece) items at → ReadsBeyond limit stream piece items at
+    → (items : List Item) (at : Place) → ReadsItems limit (place_with reading.place piece) items at → ReadsBeyond limit stream piece items at
 beyond limit stream piece reading k items at r = (
   k.items,
   reading.place,
@@ -166,10 +166,10 @@ arrival config piece moment Absent s sent before after old new answer m d k v = 
 arrival config piece moment (Live stream) s sent before after old new answer m d k v =
     let dead : IsDeadIfShut old = λ shut. absurd (open_shut old.place k.is_open shut) in
     let t = v k.same_limit dead in
-    let Given : List Item → Place → Type 0 = λ items at. Reads old.limit (place_with old.place piece) items at in
+    let Given : List Item → Place → Type 0 = λ items at. ReadsItems old.limit (place_with old.place piece) items at in
     let Beyond : List Item → Place → Type 0 = ReadsBeyond config.max_upload stream piece in
     let f : (items : List Item) (at : Place) → Given items at → Beyond items at =
-    λ items at r. beyond config.max_upload stream piece old k items at (subst (λ n. Reads n (place_with old.place piece) items at) k.same_limit r) in
+    λ items at r. beyond config.max_upload stream piece old k items at (subst (λ n. ReadsItems n (place_with old.place piece) items at) k.same_limit r) in
     let w : Serves config Beyond s moment sent t.left new.place answer = serves_map Given Beyond f t.serves in
     record {
       left = t.left;
@@ -184,10 +184,10 @@ arrival config piece moment (Live stream) s sent before after old new answer m d
 arrival config piece moment ShutLine s sent before after old new answer m d k v =
     let dead : IsDeadIfShut old = λ _. k.dead in
     let t = v k.same_limit dead in
-    let Given : List Item → Place → Type 0 = λ items at. Reads old.limit (place_with old.place piece) items at in
-    let AtEnd : List Item → Place → Type 0 = λ items at. Reads old.limit Shut items at in
+    let Given : List Item → Place → Type 0 = λ items at. ReadsItems old.limit (place_with old.place piece) items at in
+    let AtEnd : List Item → Place → Type 0 = λ items at. ReadsItems old.limit Shut items at in
     let f : (items : List Item) (at : Place) → Given items at → AtEnd items at =
-    λ items at r. subst (λ p. Reads old.limit (place_with p piece) items at) k.shut r in
+    λ items at r. subst (λ p. ReadsItems old.limit (place_with p piece) items at) k.shut r in
     let w : Serves config AtEnd s moment sent t.left new.place answer = serves_map Given AtEnd f t.serves in
     ended_next config piece moment before after new.limit new.is_dead (m ∙ k.same_limit) (d dead) (serves_ended old.limit w) t.represents
     (leaves_wider after.store _ _ (λ c h. ended_left old.limit w c (left_map Given AtEnd f t.serves c h)) t.stop)
@@ -205,15 +205,15 @@ ended_still config piece moment nothing = (refl, λ t. at_shut_line)
 pub still_arrival : (config : Config) (piece : List ℕ) (moment : ℕ) (line : Line) (sent : List ℕ) (old new : Reading) (answer : Arrived)
     → new.limit ≡ old.limit → (IsDeadIfShut old → IsDeadIfShut new)
     → IsKeptAs config.max_upload line (Some old)
-    → (old.limit ≡ config.max_upload → IsDeadIfShut old → (s : State) → Serves config (λ items at. Reads old.limit (place_with old.place piece) items at) s moment sent s new.place answer)
+    → (old.limit ≡ config.max_upload → IsDeadIfShut old → (s : State) → Serves config (λ items at. ReadsItems old.limit (place_with old.place piece) items at) s moment sent s new.place answer)
     → StillLine config piece moment line sent new answer
 still_arrival config piece moment Absent sent old new answer m d k v = absurd k
 still_arrival config piece moment (Live stream) sent old new answer m d k v =
     let dead : IsDeadIfShut old = λ shut. absurd (open_shut old.place k.is_open shut) in
-    let Given : List Item → Place → Type 0 = λ items at. Reads old.limit (place_with old.place piece) items at in
+    let Given : List Item → Place → Type 0 = λ items at. ReadsItems old.limit (place_with old.place piece) items at in
     let Beyond : List Item → Place → Type 0 = ReadsBeyond config.max_upload stream piece in
     let f : (items : List Item) (at : Place) → Given items at → Beyond items at =
-    λ items at r. beyond config.max_upload stream piece old k items at (subst (λ n. Reads n (place_with old.place piece) items at) k.same_limit r) in
+    λ items at r. beyond config.max_upload stream piece old k items at (subst (λ n. ReadsItems n (place_with old.place piece) items at) k.same_limit r) in
     let w : (s : State) → Serves config Beyond s moment sent s new.place answer = λ s. serves_map Given Beyond f (v k.same_limit dead s) in
     record {
       becomes = line_after (stream ++ piece) new.place;
@@ -222,10 +222,10 @@ still_arrival config piece moment (Live stream) sent old new answer m d k v =
     }
 still_arrival config piece moment ShutLine sent old new answer m d k v =
     let dead : IsDeadIfShut old = λ _. k.dead in
-    let Given : List Item → Place → Type 0 = λ items at. Reads old.limit (place_with old.place piece) items at in
-    let AtEnd : List Item → Place → Type 0 = λ items at. Reads old.limit Shut items at in
+    let Given : List Item → Place → Type 0 = λ items at. ReadsItems old.limit (place_with old.place piece) items at in
+    let AtEnd : List Item → Place → Type 0 = λ items at. ReadsItems old.limit Shut items at in
     let f : (items : List Item) (at : Place) → Given items at → AtEnd items at =
-    λ items at r. subst (λ p. Reads old.limit (place_with p piece) items at) k.shut r in
+    λ items at r. subst (λ p. ReadsItems old.limit (place_with p piece) items at) k.shut r in
     let w : Serves config AtEnd empty_state moment sent empty_state new.place answer = serves_map Given AtEnd f (v k.same_limit dead empty_state) in
     let t = ended_still config piece moment (serves_ended old.limit w) in
     record { becomes = ShutLine; arrival = t.1; kept = record { same_limit = m ∙ k.same_limit; shut = t.0; dead = d dead t.0 } }
@@ -257,7 +257,7 @@ pub none_there : (o : Option Reading) → o ≡ None → IsSome o → ⊥
 none_there None e s = cc
 none_there (Some r) e s = cc
 
-module _ (n i : ℕ) (cs : List Connection) (c : Connection) (index : index_of n cs ≡ Some i) (item : c ≡ get_or cs i c) where
+module _ (n i : ℕ) (cs : List Connection) (c : Connection) (index : place_of_number n cs ≡ Some i) (item : c ≡ get_or cs i c) where
   pub not_absent : intake_of cs n ≡ None → ⊥
   not_absent e = none_there (intake_of cs n) e (subst (λ o. IsSome o) (sym (index_some n i cs c index item).1) refl)
 
@@ -279,7 +279,7 @@ same_hub hub a b w i = record hub {
 }
 
 module _ {A : Type 0} (condition : A → Condition) (old new : Hub A) (n i : ℕ) (piece : List ℕ) (moment : ℕ) (c : Connection) (now : Reading) (b : Behind)
-    (index : index_of n old.connections.items ≡ Some i) (item : c ≡ get_or old.connections.items i c)
+    (index : place_of_number n old.connections.items ≡ Some i) (item : c ≡ get_or old.connections.items i c)
     (config : new.config ≡ old.config) (next : new.next ≡ old.next)
     (changed : new.connections.items ≡ set old.connections.items i (record { number = c.number; intake = now; behind = b }))
     (limit : now.limit ≡ c.intake.limit) (dead : IsDeadIfShut c.intake → IsDeadIfShut now) (law : IsClean condition new → IsHonest condition new) (settles : Settles (store_of condition new))

@@ -18,7 +18,7 @@ use Rattle.dep_message.specs.Showing.{IsNoNext}
 use Rattle.dep_message.specs.Places.{Place, Open, Reading, place_with}
 use Rattle.dep_message.proofs.OneReading.{one_at, one_spelling}
 use Rattle.dep_message.proofs.Reading.{first_more, reads_more}
-use Rattle.dep_message.specs.Stream.{Item, Fault, Continue, Request, FirstAt, Reads, Spells}
+use Rattle.dep_message.specs.Stream.{Item, Fault, Continue, Request, FirstAt, ReadsItems, Spells}
 use Rattle.dep_message.specs.declared.message.Message.{Message}
 use Rattle.dep_router.specs.Targets.{target}
 use Rattle.dep_router.specs.declared.routed.Routed.{Routed}
@@ -37,7 +37,7 @@ use Rattle.dep_hub.specs.declared.rest.Behind.{Behind}
 use Rattle.dep_exchange.specs.declared.rest.Rest.{Rest}
 use Rattle.dep_hub.specs.declared.rest.Behind.TheVariants.{Nothing, Content, Broken, Waits, Prepares, Prepared}
 use Rattle.dep_hub.specs.declared.claim.Claim.{Claim}
-use Rattle.dep_hub.specs.declared.claim.Claim.TheVariants.{Takes, Reads as ReadsFile, Neither}
+use Rattle.dep_hub.specs.declared.claim.Claim.TheVariants.{Takes, ReadsItems as ReadsFile, Neither}
 use Rattle.dep_hub.specs.Claims.{claim_by, claim_of, claim_to, has_to_wait, is_in_the_way, taken_of}
 use Rattle.dep_head.specs.Head.{HeadParts}
 use Rattle.dep_types.specs.declared.target.Resource.{Resource}
@@ -164,11 +164,11 @@ owed_arrived config piece moment at_shut_line b owed l spares sound h = h
 
 -- ---- the items that are answered are the next of the connection
 
-reads_after : (limit : ℕ) (xs ys : List Item) (from p q : Place) → Reads limit from xs p → Reads limit from (xs ++ ys) q → Reads limit p ys q
-reads_after limit [] ys from p q r s = subst (λ (a : Place). Reads limit a ys q) (sym r) s
+reads_after : (limit : ℕ) (xs ys : List Item) (from p q : Place) → ReadsItems limit from xs p → ReadsItems limit from (xs ++ ys) q → ReadsItems limit p ys q
+reads_after limit [] ys from p q r s = subst (λ (a : Place). ReadsItems limit a ys q) (sym r) s
 reads_after limit (x ∷ xs) ys from p q r s =
     let o = one_at limit from x x r.0 s.0 r.1 s.1 in
-    reads_after limit xs ys r.0 p q r.2 (subst (λ (a : Place). Reads limit a (xs ++ ys) q) (sym o.1) s.2)
+    reads_after limit xs ys r.0 p q r.2 (subst (λ (a : Place). ReadsItems limit a (xs ++ ys) q) (sym o.1) s.2)
 
 module _ (limit : ℕ) (stream part rest : List ℕ) (head_only : Place) (before : List Item) (spells : Spells limit stream before head_only) (b : Behind)
     (spares : (item : Item) (next : Place) → FirstAt limit (place_with head_only (part ++ rest)) item next → Spares b item) where

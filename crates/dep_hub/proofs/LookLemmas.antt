@@ -11,10 +11,10 @@ use Rattle.dep_message.specs.declared.message.Message.{Message}
 use Rattle.dep_message.proofs.OneReading.{one_at}
 use Rattle.dep_hub.specs.Claims.{claim_of, has_to_wait, is_any_pending, waits_on}
 use Rattle.dep_exchange.specs.declared.next.Next.{Next}
-use Rattle.dep_hub.specs.Looks.{SeesHead, Shows, is_new, is_to_prepare}
+use Rattle.dep_hub.specs.Looks.{SeesHead, ShowsItem, is_new, is_to_prepare}
 use Rattle.dep_hub.specs.Preparing.{IsLookedAt, names_uploads}
 use Rattle.dep_hub.specs.RepresentsOwing.{IsAnswerable, IsReady, KeepsBack, KeptBack, NextIsAnswerable, NextIsKeptBack, RepliesOver, begins_to_prepare, begins_to_wait, behind_at, lacks_memory, waits_still}
-use Rattle.dep_hub.specs.Numbers.{index_of}
+use Rattle.dep_hub.specs.Numbers.{place_of_number}
 use Rattle.dep_hub.specs.Representing.{GoesOnAs, intake_of}
 use Rattle.dep_hub.specs.declared.claim.Claim.{Claim}
 use Rattle.dep_hub.specs.declared.connections.Connection.{Connection}
@@ -55,14 +55,14 @@ none_holds holds reading m next first isnt other after f =
 
 module _ (reading : Reading) (was : Behind) (is_busy : Bool) (ready : IsReady was) where
   -- no request stands first
-  pub none_seen : IsNoRequest reading.limit reading.place → (cs : List Connection) → Shows cs reading was Free
+  pub none_seen : IsNoRequest reading.limit reading.place → (cs : List Connection) → ShowsItem cs reading was Free
   none_seen absent cs = (ready, (λ m next f. absurd (absent m next f)), λ nothing m next f. absurd (absent m next f))
 
   looked_at : (m : Message) (next : Place) → FirstAt reading.limit reading.place (Request m) next → is_to_prepare was m.head ≡ false → IsLookedAt reading was
   looked_at m next first e nothing = none_holds names_uploads reading m next first (none_named was m.head e nothing)
 
   shows_head : (m : Message) (next : Place) → FirstAt reading.limit reading.place (Request m) next → (look : Look) → SeesHead was is_busy m.head look
-      → (cs : List Connection) → is_busy ≡ is_any_pending cs → Shows cs reading was look
+      → (cs : List Connection) → is_busy ≡ is_any_pending cs → ShowsItem cs reading was look
   shows_head m next first (Kept now) s cs busy = let named = to_prepare was m.head s.0 in begins_to_prepare named.0 (m, next, first, named.1) s.1
   shows_head m next first (Claims claim) s cs busy = (ready, looked_at m next first s.0, (m, next, first, s.1, none_named was m.head s.0))
   shows_head m next first Free s cs busy =
@@ -71,37 +71,37 @@ module _ (reading : Reading) (was : Behind) (is_busy : Bool) (ready : IsReady wa
   -- what was seen of the request that stands first
   pub shows_next : (m : Message) (next : Place) → FirstAt reading.limit reading.place (Request m) next → (seen : Result Look AllocError)
       → IfOk seen (SeesHead was is_busy m.head)
-      → MatchResult seen (λ look. (cs : List Connection) → is_busy ≡ is_any_pending cs → Shows cs reading was look) (λ _. HasFirstHead reading.place)
+      → MatchResult seen (λ look. (cs : List Connection) → is_busy ≡ is_any_pending cs → ShowsItem cs reading was look) (λ _. HasFirstHead reading.place)
   shows_next m next first (Ok look) s = shows_head m next first look s
   shows_next m next first (Err fault) s = request_head reading.limit reading.place next m first
 
   -- memory ran out
-  pub shows_lack : (was ≡ Nothing) ⊎ (is_busy ≡ true) → HasFirstHead reading.place → (cs : List Connection) → is_busy ≡ is_any_pending cs → Shows cs reading was (Kept Prepared)
+  pub shows_lack : (was ≡ Nothing) ⊎ (is_busy ≡ true) → HasFirstHead reading.place → (cs : List Connection) → is_busy ≡ is_any_pending cs → ShowsItem cs reading was (Kept Prepared)
   shows_lack (inl nothing) has cs busy = lacks_memory ready (inl nothing) has refl
   shows_lack (inr is) has cs busy = lacks_memory ready (inr (sym busy ∙ is)) has refl
 
 -- nothing is asked of it
-pub shows_free : (cs : List Connection) (reading : Reading) (was : Behind) → IsReady was → is_new was ≡ false → is_any_pending cs ≡ false → Shows cs reading was Free
+pub shows_free : (cs : List Connection) (reading : Reading) (was : Behind) → IsReady was → is_new was ≡ false → is_any_pending cs ≡ false → ShowsItem cs reading was Free
 shows_free cs reading was ready seen idle = (ready, (λ m next f. idle_waits cs (claim_of m.head) idle), λ nothing. absurd (true_false (sym (ap is_new nothing) ∙ seen)))
 
 -- it has to wait by its claim, or it may be answered
-pub waits_now : (cs : List Connection) (reading : Reading) (was : Behind) (claim : Claim) → Shows cs reading was (Claims claim) → has_to_wait cs claim ≡ true
+pub waits_now : (cs : List Connection) (reading : Reading) (was : Behind) (claim : Claim) → ShowsItem cs reading was (Claims claim) → has_to_wait cs claim ≡ true
     → KeptBack cs reading was (Waits claim)
 waits_now cs reading was claim (ready, looked, has) waits = begins_to_wait claim ready has refl waits
 
-pub claims_free : (cs : List Connection) (reading : Reading) (was : Behind) (claim : Claim) → Shows cs reading was (Claims claim) → has_to_wait cs claim ≡ false
+pub claims_free : (cs : List Connection) (reading : Reading) (was : Behind) (claim : Claim) → ShowsItem cs reading was (Claims claim) → has_to_wait cs claim ≡ false
     → IsAnswerable cs reading was
 claims_free cs reading was claim (ready, looked, (m, next, first, is, named)) free =
     (ready, none_holds (λ (head : HeadParts). has_to_wait cs (claim_of head)) reading m next first (ap (has_to_wait cs) (sym is) ∙ free), looked)
 
 -- what holds of a connection where it stands holds by its number
-pub by_number : (n i : ℕ) (cs : List Connection) (c : Connection) → index_of n cs ≡ Some i → c ≡ get_or cs i c → (P : Reading → Behind → Type 0)
+pub by_number : (n i : ℕ) (cs : List Connection) (c : Connection) → place_of_number n cs ≡ Some i → c ≡ get_or cs i c → (P : Reading → Behind → Type 0)
     → P c.intake c.behind → (reading : Reading) → intake_of cs n ≡ Some reading → P reading (behind_at cs n)
 by_number n i cs c index item P h reading there =
     subst (λ (r : Reading). P r (behind_at cs n)) (some_reading c.intake reading (sym (index_some n i cs c index item).1 ∙ there))
     (subst (λ (b : Behind). P c.intake b) (sym (behind_some n i cs c index item)) h)
 
-pub kept_number : (n i : ℕ) (cs : List Connection) (c : Connection) → index_of n cs ≡ Some i → c ≡ get_or cs i c → (kept : Option Behind)
+pub kept_number : (n i : ℕ) (cs : List Connection) (c : Connection) → place_of_number n cs ≡ Some i → c ≡ get_or cs i c → (kept : Option Behind)
     → MatchOption kept (IsAnswerable cs c.intake c.behind) (KeptBack cs c.intake c.behind) → MatchOption kept (NextIsAnswerable cs n) (NextIsKeptBack cs n)
 kept_number n i cs c index item None free = by_number n i cs c index item (λ (r : Reading) (b : Behind). IsAnswerable cs r b) free
 kept_number n i cs c index item (Some now) kept = by_number n i cs c index item (λ (r : Reading) (b : Behind). KeptBack cs r b now) kept

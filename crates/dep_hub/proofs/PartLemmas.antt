@@ -15,7 +15,7 @@ use Rattle.dep_exchange.specs.Sending.{Outside}
 use Rattle.dep_exchange.specs.Serving.{Answers, FailsFrom, IsAnsweredShut, IsDeadIfShut, IsStill, OnlyContinues, answer_after}
 use Rattle.dep_exchange.specs.Shut.{waits, has_ended}
 use Rattle.dep_exchange.specs.Shut as fixed
-use Rattle.dep_exchange.specs.Nexts.{RunsOut, IsLast, IsDead, GoesOn, IsWaiting, AnswersNext, arrived_by}
+use Rattle.dep_exchange.specs.Nexts.{RunsOut, IsLast, IsDead, GoesOn, IsWaiting, AnswersNext, arrived_after}
 use Rattle.dep_hub.specs.Representing.{IsShut}
 use Rattle.dep_hub.specs.Holding.{Outcome, ArrivesAs, items_answered, IsNext}
 use Rattle.dep_exchange.specs.declared.arrived.Arrived.{Arrived}
@@ -328,7 +328,7 @@ module _ (config : Config) (moment : ℕ) (old new : Outside) (reading now : Rea
   over_cut shut (inr (inr d)) = absurd (closed_cut (sym d.answer_is))
 
   -- ---- whatever it was
-  pub over_next : (n : Next) → AnswersNext config reading moment old new now.place n → NextOver config reading now moment old new (arrived_by n) (IsNext n)
+  pub over_next : (n : Next) → AnswersNext config reading moment old new now.place n → NextOver config reading now moment old new (arrived_after n) (IsNext n)
   over_next More g = over_more g
   over_next Waiting w = over_waiting w
   over_next Closed e = over_closed e.0 e.1

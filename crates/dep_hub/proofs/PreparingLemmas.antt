@@ -15,9 +15,9 @@ use Rattle.dep_message.proofs.Bodies.{begins_with_head}
 use Rattle.dep_exchange.specs.Archives.{KeepsEachState}
 use Rattle.dep_hub.specs.Claims.{is_content, is_pending, is_waiting, sends_of}
 use Rattle.dep_hub.specs.Holding.{IsHeldAs}
-use Rattle.dep_hub.specs.Numbers.{index_of, Ascends}
+use Rattle.dep_hub.specs.Numbers.{place_of_number, Ascends}
 use Rattle.dep_hub.specs.Owed.{IsOwed}
-use Rattle.dep_hub.specs.Preparing.{HasTurn, MakesStepFor, goes_on, ends, is_preparing, steps_of}
+use Rattle.dep_hub.specs.Preparing.{HasTurn, MakesStepFor, goes_on, ends, is_preparing, step_bound}
 use Rattle.dep_exchange.specs.Records.{Run, stops, stopped, first_world}
 use Rattle.dep_hub.specs.Representing.{intake_of, store_of}
 use Rattle.dep_hub.specs.RepresentsOwing.{KeptBack, unsent, prepares_still, begins_to_prepare, waits_still, begins_to_wait, lacks_memory, behind_at}
@@ -47,11 +47,11 @@ request_head limit Shut next m f = absurd f
 -- ---- a connection whose next request is prepared
 
 -- each connection has the index at which it stands
-found_here : (n : ℕ) (d : Connection) (cs : List Connection) (i : ℕ) → (d.number == n) ≡ false → index_of n cs ≡ Some i → index_of n (d ∷ cs) ≡ Some (suc i)
+found_here : (n : ℕ) (d : Connection) (cs : List Connection) (i : ℕ) → (d.number == n) ≡ false → place_of_number n cs ≡ Some i → place_of_number n (d ∷ cs) ≡ Some (suc i)
 found_here n d cs i other e = rw other (ap (option_map suc) e)
 
 index_at : (low high i : ℕ) (cs : List Connection) (c : Connection) → Ascends low cs high → i < length cs → c ≡ get_or cs i c
-    → (index_of c.number cs ≡ Some i) × (low ≤ c.number)
+    → (place_of_number c.number cs ≡ Some i) × (low ≤ c.number)
 index_at low high i [] c a l item = absurd (omega (arith, l))
 index_at low high zero (d ∷ cs) c a l item =
     let same : d.number ≡ c.number = ap (λ (x : Connection). x.number) (sym item) in
@@ -82,9 +82,9 @@ was_preparing : (was now : Behind) → MakesStepFor was now → is_preparing was
 was_preparing was now (goes_on left w n) = ap is_preparing w
 was_preparing was now (ends left w n) = ap is_preparing w
 
-step_fewer : (was now : Behind) → MakesStepFor was now → steps_of now < steps_of was
-step_fewer was now (goes_on left w n) = subst (λ (k : ℕ). steps_of now < k) (sym (ap steps_of w)) (subst (λ (k : ℕ). k < left + 1 + 1) (sym (ap steps_of n)) (omega arith))
-step_fewer was now (ends left w n) = subst (λ (k : ℕ). steps_of now < k) (sym (ap steps_of w)) (subst (λ (k : ℕ). k < left + 1) (sym (ap steps_of n)) (omega arith))
+step_fewer : (was now : Behind) → MakesStepFor was now → step_bound now < step_bound was
+step_fewer was now (goes_on left w n) = subst (λ (k : ℕ). step_bound now < k) (sym (ap step_bound w)) (subst (λ (k : ℕ). k < left + 1 + 1) (sym (ap step_bound n)) (omega arith))
+step_fewer was now (ends left w n) = subst (λ (k : ℕ). step_bound now < k) (sym (ap step_bound w)) (subst (λ (k : ℕ). k < left + 1) (sym (ap step_bound n)) (omega arith))
 
 step_owes : (s : State) (owed : List ℕ) (was now : Behind) → MakesStepFor was now → IsOwed s was owed → IsOwed s now owed
 step_owes s owed was now (goes_on left w n) h = subst (λ (b : Behind). IsOwed s b owed) (sym n) (subst (λ (b : Behind). IsOwed s b owed) w h)
@@ -131,22 +131,22 @@ steps_same xs ys zero k l others = refl
 steps_same xs ys (suc n) k l others =
     let other : n ≢ k = λ e. omega (arith, l, e) in
     let front = steps_same xs ys n k (omega (arith, l)) others in
-    let last = ap steps_of (others n other) in
+    let last = ap step_bound (others n other) in
     omega (arith, front, last)
 
 steps_fewer : (xs ys : List Connection) (n k : ℕ) → k < n → ((m : ℕ) → m ≢ k → behind_at ys m ≡ behind_at xs m)
-    → steps_of (behind_at ys k) < steps_of (behind_at xs k) → steps_below ys n < steps_below xs n
+    → step_bound (behind_at ys k) < step_bound (behind_at xs k) → steps_below ys n < steps_below xs n
 steps_fewer xs ys zero k l others fewer = absurd (omega (arith, l))
 steps_fewer xs ys (suc n) k l others fewer = elim (cases_lt k n) [
   | inl lt ↦
       let other : n ≢ k = λ e. omega (arith, lt, e) in
       let front = steps_fewer xs ys n k lt others fewer in
-      let last = ap steps_of (others n other) in
+      let last = ap step_bound (others n other) in
       omega (arith, front, last)
   | inr ge ↦
       let same : k ≡ n = omega (arith, l, ge) in
       let front = steps_same xs ys n k ge others in
-      let last = subst (λ (j : ℕ). steps_of (behind_at ys j) < steps_of (behind_at xs j)) same fewer in
+      let last = subst (λ (j : ℕ). step_bound (behind_at ys j) < step_bound (behind_at xs j)) same fewer in
       omega (arith, front, last)
 ]
 
@@ -288,11 +288,11 @@ some_index : (o : Option ℕ) (i : ℕ) → option_map suc o ≡ Some i → (j :
 some_index None i e = cc
 some_index (Some j) i e = (j, refl)
 
-there_at : (n i : ℕ) (c : Connection) (cs : List Connection) (b : Bool) → (if b then Some 0 else option_map suc (index_of n cs)) ≡ Some i
-    → (if b then Some c.intake else intake_of cs n) ≡ None → ((j : ℕ) → index_of n cs ≡ Some j → intake_of cs n ≡ None → ⊥) → ⊥
+there_at : (n i : ℕ) (c : Connection) (cs : List Connection) (b : Bool) → (if b then Some 0 else option_map suc (place_of_number n cs)) ≡ Some i
+    → (if b then Some c.intake else intake_of cs n) ≡ None → ((j : ℕ) → place_of_number n cs ≡ Some j → intake_of cs n ≡ None → ⊥) → ⊥
 there_at n i c cs true e none k = cc none
-there_at n i c cs false e none k = let x = some_index (index_of n cs) i e in k x.0 x.1 none
+there_at n i c cs false e none k = let x = some_index (place_of_number n cs) i e in k x.0 x.1 none
 
-pub there_none : (n i : ℕ) (cs : List Connection) → index_of n cs ≡ Some i → intake_of cs n ≡ None → ⊥
+pub there_none : (n i : ℕ) (cs : List Connection) → place_of_number n cs ≡ Some i → intake_of cs n ≡ None → ⊥
 there_none n i [] e none = cc e
 there_none n i (c ∷ cs) e none = there_at n i c cs (c.number == n) e none (λ j. there_none n j cs)

@@ -21,7 +21,7 @@ use Rattle.dep_message.specs.declared.message.Message.{Message}
 use Rattle.dep_router.specs.Targets.{target}
 use Rattle.dep_router.specs.declared.routed.Routed.{Routed}
 use Rattle.dep_router.specs.declared.routed.Routed.TheVariants.{To, NotFound, NotAllowed}
-use Rattle.dep_hub.specs.Claims.{any_waits_to_take, claim_by, claim_of, claim_to, has_to_wait, is_awaited_by, reads_of, sends_of, waits_to_take}
+use Rattle.dep_hub.specs.Claims.{any_waits_to_take, claim_by, claim_of, claim_to, has_to_wait, is_awaited_by, file_claim, sends_of, waits_to_take}
 use Rattle.dep_exchange.specs.Machine.{operation_of, routed_step, step}
 use Rattle.dep_hub.specs.Owed.{later_than}
 use Rattle.dep_hub.specs.RepresentsOwing.{IsFree, KeepsBack, KeptBack, unsent, prepares_still, begins_to_prepare, waits_still, begins_to_wait, lacks_memory, behind_at}
@@ -53,7 +53,7 @@ routed_claims config s m NotFound id sound e = absurd (refused_none s why.NotFou
 routed_claims config s m (NotAllowed methods) id sound e = absurd (refused_none s why.MethodNotAllowed (Some methods) (is_head_only m.head) (closes m.head) id e)
 routed_claims config s m (To t) id sound e =
     let named = named_source config s (operation_of m t) id sound e in
-    ap (claim_to t.resource) named.0 ∙ ap reads_of named.1
+    ap (claim_to t.resource) named.0 ∙ ap file_claim named.1
 
 -- what stands first, where it doesn't have to wait, names a file that no waiting request takes
 item_unawaited : (config : Config) (cs : List Connection) (reading : Reading) (moment : ℕ) (s : State) (item : Item) (next : Place) (it : StoredFile)

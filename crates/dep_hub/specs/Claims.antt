@@ -32,18 +32,18 @@ taken_of (File n f) = Takes (One n f)
 taken_of resource = Neither
 
 -- a file is read, if one is
-abbrev pub reads_of : Option FileId → Claim
-reads_of None = Neither
-reads_of (Some id) = Reads id.object id.file
+abbrev pub file_claim : Option FileId → Claim
+file_claim None = Neither
+file_claim (Some id) = Reads id.object id.file
 
 -- a GET reads the content of a file, by its own path or by its path in the bag
-abbrev pub read_of : Resource → Claim
-read_of resource = reads_of (file_read resource)
+abbrev pub read_claim : Resource → Claim
+read_claim resource = file_claim (file_read resource)
 
 abbrev pub claim_to : Resource → Method → Claim
 claim_to resource Put = taken_of resource
 claim_to resource Delete = taken_of resource
-claim_to resource Get = read_of resource
+claim_to resource Get = read_claim resource
 claim_to resource method = Neither
 
 abbrev pub claim_by : Routed → Claim

@@ -27,8 +27,8 @@ SeesHead was is_busy head (Claims claim) = (is_to_prepare was head ≡ false) ×
 SeesHead was is_busy head Free = (is_to_prepare was head ≡ false) × (is_busy ≡ false)
 
 -- what it shows of the next item: it is kept back, or unless its claim has to wait it may be answered
-abbrev pub Shows : List Connection → Reading → (was : Behind) → Look → Type 0
-Shows connections reading was (Kept now) = KeptBack connections reading was now
-Shows connections reading was (Claims claim) =
+abbrev pub ShowsItem : List Connection → Reading → (was : Behind) → Look → Type 0
+ShowsItem connections reading was (Kept now) = KeptBack connections reading was now
+ShowsItem connections reading was (Claims claim) =
     IsReady was × IsLookedAt reading was × HasClaim reading was claim
-Shows connections reading was Free = IsAnswerable connections reading was
+ShowsItem connections reading was Free = IsAnswerable connections reading was

@@ -6,10 +6,10 @@ use Rattle.std.specs.Coded.{×_prop, le_prop}
 use Rattle.dep_hub.specs.declared.connections.Connection.{Connection}
 
 -- the first place at which the number stands
-abbrev pub index_of : ℕ → List Connection → Option ℕ
-index_of number [] = None
-index_of number (c ∷ connections) =
-    if c.number == number then Some 0 else option_map suc (index_of number connections)
+abbrev pub place_of_number : ℕ → List Connection → Option ℕ
+place_of_number number [] = None
+place_of_number number (c ∷ connections) =
+    if c.number == number then Some 0 else option_map suc (place_of_number number connections)
 
 -- the numbers ascend, from one and below the other
 abbrev pub Ascends : ℕ → List Connection → ℕ → Type 0

@@ -2,10 +2,7 @@
 use Rattle.std.specs.Prelude.{◌≡◌, ◌⊎◌, ◌<◌, ◌≤◌, ℕ, ◌+◌, ◌&&◌, ◌||◌, nat_lt, Bool, true, false, List, length, get_or, Option, Some, None, codes, bytes_eq, if◌then◌else◌}
 use Rattle.dep_head.specs.Head.{HeadParts}
 use Rattle.dep_fields.specs.Reported.{fields_of}
-use Rattle.dep_fields.specs.declared.field.Field.{Field}
-use Rattle.dep_fields.specs.declared.field.Field.TheVariants.{Value}
-use Rattle.dep_fields.specs.declared.kind.Kind.{Kind}
-use Rattle.dep_fields.specs.declared.kind.Kind.TheVariants.{References}
+use Rattle.dep_fields.specs.Kinds.{is_by_reference}
 use Rattle.dep_message.specs.Places.{Place, Reading}
 use Rattle.dep_message.specs.Showing.{IsNoNext}
 use Rattle.dep_message.specs.Stream.{Request, FirstAt}
@@ -16,11 +13,6 @@ use Rattle.dep_exchange.specs.ArchiveCalls.{CallLog, Runs, WorkedAhead}
 use Rattle.dep_hub.specs.declared.connections.Connection.{Connection}
 use Rattle.dep_hub.specs.declared.rest.Behind.{Behind}
 use Rattle.dep_hub.specs.declared.rest.Behind.TheVariants.{Nothing, Prepares, Prepared}
-
--- the content is a document of references
-abbrev pub is_by_reference : Field Kind → Bool
-is_by_reference (Value References) = true
-is_by_reference field = false
 
 -- a POST or a PUT by reference: its document names uploads
 abbrev pub names_uploads : HeadParts → Bool
@@ -51,9 +43,9 @@ is_preparing (Prepares left) = true
 is_preparing behind = false
 
 -- how many steps end that at most
-abbrev pub steps_of : Behind → ℕ
-steps_of (Prepares left) = left + 1
-steps_of behind = 0
+abbrev pub step_bound : Behind → ℕ
+step_bound (Prepares left) = left + 1
+step_bound behind = 0
 
 -- behind its number, where that is below this one and its next request is prepared
 abbrev pub prepared_below : (below : ℕ) → Connection → ℕ

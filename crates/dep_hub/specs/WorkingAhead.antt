@@ -6,7 +6,7 @@ use Rattle.dep_exchange.specs.Archives.{KeepsEachState}
 use Rattle.dep_hub.specs.Representing.{store_of, intake_of, IsClean}
 use Rattle.dep_hub.specs.Holding.{RepresentsOn, StopsOn}
 use Rattle.dep_hub.specs.Claims.{is_content}
-use Rattle.dep_hub.specs.Preparing.{MakesStepFor, is_preparing, steps_of}
+use Rattle.dep_hub.specs.Preparing.{MakesStepFor, is_preparing, step_bound}
 use Rattle.dep_hub.specs.RepresentsOwing.{KeepsBack, OthersStay, RepresentsOwing, behind_at}
 use Rattle.dep_hub.specs.declared.rest.Behind.TheVariants.{Nothing, Broken}
 use Rattle.dep_hub.specs.declared.connections.Connection.{Connection}
@@ -37,7 +37,7 @@ pub data MakesOneStep {A : Type 0} (old new : Hub A) : Type 0 where
 -- how many steps end what is prepared for the connections with numbers below this, at most
 abbrev pub steps_below : List Connection → (next : ℕ) → ℕ
 steps_below connections zero = 0
-steps_below connections (suc n) = steps_below connections n + steps_of (behind_at connections n)
+steps_below connections (suc n) = steps_below connections n + step_bound (behind_at connections n)
 
 -- One has its turn before a number, while turns go down from the last one's to 0: where it is above it, and where the
 -- number isn't below the last one's, so that it waits until they go down anew.

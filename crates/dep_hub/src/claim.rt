@@ -1,7 +1,7 @@
 //! What requests have to do with contents that are sent in steps.
 ghost use Rattle.std.specs.Prelude.{◌≡◌, IfOk};
 ghost use Rattle.dep_hub.specs.Claims as spec;
-ghost use Rattle.dep_hub.specs.Claims.{claim_by, claim_to, has_file, read_of, taken_of};
+ghost use Rattle.dep_hub.specs.Claims.{claim_by, claim_to, has_file, read_claim, taken_of};
 
 use dep_bag::file_number;
 use dep_exchange::Site;
@@ -84,7 +84,7 @@ fn taken_with(resource: &Resource) -> Claim
 }
 
 fn read_at(resource: &Resource) -> Claim
-    ensures { result ≡ read_of resource.now }
+    ensures { result ≡ read_claim resource.now }
 {
     match resource {
         Resource::File(object, file) => Claim::Reads(*object, *file),

@@ -1,6 +1,6 @@
 //! The connections of a hub, by their numbers.
 ghost use Rattle.std.specs.Prelude.{◌≡◌, ◌<◌, length, IfSome};
-ghost use Rattle.dep_hub.specs.Numbers.{index_of};
+ghost use Rattle.dep_hub.specs.Numbers.{place_of_number};
 
 use crate::rest::Behind;
 use dep_message::Intake;
@@ -56,7 +56,7 @@ pub(crate) struct ListedConnection {
 
 /// Where a connection stands in the list.
 pub(crate) fn index_among(connections: &[Connection], id: ConnId) -> Option<usize>
-    ensures value { result ≡ index_of id connections.now }
+    ensures value { result ≡ place_of_number id connections.now }
     ensures within { IfSome result (λ i. i < length connections.now) }
 {
     for (i, connection) in connections.iter().enumerate() {

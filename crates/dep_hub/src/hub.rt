@@ -55,7 +55,7 @@ impl<A: Archive> Hub<A> {
     ghost use Rattle.dep_hub.specs.RepresentsOwing.{behind_at, is_awaited_at, KeepsBack, NextIsAnswerable, NextIsFree, NextIsKeptBack, NextIsPrepared, RepliesOver, SendsOn};
     ghost use Rattle.dep_hub.specs.Claims.{is_content};
     ghost use Rattle.dep_hub.specs.WorkingAhead.{RestsAhead};
-    ghost use Rattle.dep_hub.specs.Numbers.{index_of};
+    ghost use Rattle.dep_hub.specs.Numbers.{place_of_number};
     ghost use Rattle.std.specs.Prelude.{ℕ, Option, Some, ◌==◌, ◌<◌, if◌then◌else◌, true, false};
     ghost use Rattle.dep_exchange.specs.Archives.{KeepsAll, CommitsIfDue};
     ghost use Rattle.dep_exchange.specs.Shut.{ReportsOpen};
@@ -262,7 +262,7 @@ impl<A: Archive> Hub<A> {
 
     // What is behind the last reply of a connection from now on, if no further item is answered.
     fn kept_back(&mut self, connection: ConnId, i: usize) -> Option<Behind>
-        requires index { index_of connection self.old.connections.items ≡ Some i }
+        requires index { place_of_number connection self.old.connections.items ≡ Some i }
         requires within { i < length self.old.connections.items }
         ensures same { self.new ≡ self.old }
         ensures found { MatchOption result
@@ -279,7 +279,7 @@ impl<A: Archive> Hub<A> {
 
     // Keeps the next request of a connection back: this is behind its last reply from now on.
     fn keep_back(&mut self, connection: ConnId, i: usize, behind: Behind)
-        requires index { index_of connection self.old.connections.items ≡ Some i }
+        requires index { place_of_number connection self.old.connections.items ≡ Some i }
         requires within { i < length self.old.connections.items }
         requires kept { NextIsKeptBack self.old.connections.items connection behind }
         ensures goes { GoesOnAs A.condition self.old self.new }
@@ -301,7 +301,7 @@ impl<A: Archive> Hub<A> {
         out: &mut O,
         log: &mut L,
     ) -> Next
-        requires index { index_of listed.connection self.old.connections.items ≡ Some listed.index }
+        requires index { place_of_number listed.connection self.old.connections.items ≡ Some listed.index }
         requires within { listed.index < length self.old.connections.items }
         requires free { NextIsAnswerable self.old.connections.items listed.connection }
         ensures goes { GoesOnAs A.condition self.old self.new }

@@ -3,7 +3,7 @@ ghost use Rattle.std.specs.Prelude.{◌≡◌, ◌⊎◌, List, false, true, IfO
 ghost use Rattle.dep_message.specs.Giving.{HasFirstHead};
 ghost use Rattle.dep_message.specs.Places.{Reading};
 ghost use Rattle.dep_hub.specs.Claims.{is_any_pending};
-ghost use Rattle.dep_hub.specs.Looks.{SeesHead, Shows, is_new, is_to_prepare as spec_is_to_prepare};
+ghost use Rattle.dep_hub.specs.Looks.{SeesHead, ShowsItem, is_new, is_to_prepare as spec_is_to_prepare};
 ghost use Rattle.dep_hub.specs.RepresentsOwing.{IsAnswerable, IsReady, KeptBack};
 ghost use Rattle.dep_hub.specs.declared.connections.Connection.{Connection as AConnection};
 ghost use Rattle.dep_hub.specs.declared.rest.Behind.{Behind as ABehind};
@@ -57,7 +57,7 @@ impl<'a> Preview for Looks<'a> {
 pub(crate) fn look_at(site: &Site, is_busy: bool, connection: &mut Connection) -> Look
     ensures same { connection.new ≡ connection.old }
     ensures shows { (connections : List AConnection) → is_busy ≡ is_any_pending connections
-        → Shows connections connection.old.intake connection.old.behind result }
+        → ShowsItem connections connection.old.intake connection.old.behind result }
 {
     let was = connection.behind;
     match was {
@@ -71,7 +71,7 @@ pub(crate) fn look_at(site: &Site, is_busy: bool, connection: &mut Connection) -
 
 /// What is behind the last reply from now on by what a look shows, if the next item isn't answered.
 pub(crate) fn kept_by(connections: &[Connection], look: Look) -> Option<Behind>
-    ensures { (reading : Reading) (was : ABehind) → Shows connections.now reading was look
+    ensures { (reading : Reading) (was : ABehind) → ShowsItem connections.now reading was look
         → MatchOption result (IsAnswerable connections.now reading was)
         (KeptBack connections.now reading was) }
 {
@@ -93,7 +93,7 @@ fn look_again(site: &Site, is_busy: bool, was: Behind, intake: &mut Intake) -> L
     requires seen { is_new was ≡ false }
     ensures same { intake.new ≡ intake.old }
     ensures shows { (connections : List AConnection) → is_busy ≡ is_any_pending connections
-        → Shows connections intake.old was result }
+        → ShowsItem connections intake.old was result }
 {
     if !is_busy {
         return Look::Free;
@@ -107,7 +107,7 @@ fn look_at_next(site: &Site, is_busy: bool, was: Behind, intake: &mut Intake) ->
     requires asked { (was ≡ Nothing) ⊎ (is_busy ≡ true) }
     ensures same { intake.new ≡ intake.old }
     ensures shows { (connections : List AConnection) → is_busy ≡ is_any_pending connections
-        → Shows connections intake.old was result }
+        → ShowsItem connections intake.old was result }
 {
     match seen_of_next(site, is_busy, was, intake) {
         Ok(look) => look,
@@ -126,7 +126,7 @@ fn seen_of_next(
     ensures same { intake.new ≡ intake.old }
     ensures shows { MatchResult result
         (λ look. (connections : List AConnection) → is_busy ≡ is_any_pending connections
-        → Shows connections intake.old was look)
+        → ShowsItem connections intake.old was look)
         (λ _. HasFirstHead intake.old.place) }
 {
     let mut looks = Looks {

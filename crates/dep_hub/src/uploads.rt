@@ -1,9 +1,8 @@
 //! Requests whose documents name uploads.
 ghost use Rattle.std.specs.Prelude.{◌≡◌, IfOk, codes, bytes_eq, ◌||◌};
 ghost use Rattle.dep_hub.specs.Preparing as spec;
-ghost use Rattle.dep_hub.specs.Preparing.{is_by_reference};
 
-use dep_fields::{Field, Kind, SwordFields};
+use dep_fields::{SwordFields, is_by_reference};
 use dep_head::Head;
 use std::alloc::{AllocError, Global};
 
@@ -25,13 +24,4 @@ fn is_post_or_put(method: &[u8]) -> bool
     ensures { result ≡ (bytes_eq method.now (codes "POST") || bytes_eq method.now (codes "PUT")) }
 {
     method == b"POST".as_slice() || method == b"PUT".as_slice()
-}
-
-fn is_by_reference(disposition: &Field<Kind>) -> bool
-    ensures { result ≡ is_by_reference disposition.now }
-{
-    match disposition {
-        Field::Value(Kind::References) => true,
-        _ => false,
-    }
 }

@@ -1,6 +1,6 @@
 //! The manifest of an object's files (RFC 8493, section 2.1.3).
 ghost use Rattle.std.specs.Prelude.{[], OnOk};
-ghost use Rattle.dep_docs_out.specs.Made.{Makes};
+ghost use Rattle.dep_docs_out.specs.Made.{MakesItems};
 ghost use Rattle.dep_manifest.specs.Growing.{Grows};
 ghost use Rattle.dep_manifest.specs.Manifest.{manifest};
 ghost use Rattle.dep_manifest.specs.Reported.{row_checksums, reported_manifest};
@@ -20,7 +20,7 @@ pub fn payload_manifest(
     view: &ObjectView,
     algorithm: Algorithm,
 ) -> Result<Vec<u8>, AllocError>
-    ensures { Makes result (reported_manifest algorithm view.now) }
+    ensures { MakesItems result (reported_manifest algorithm view.now) }
 {
     let rows = view.files.as_slice();
     let mut text = Vec::new(alloc);

@@ -1,6 +1,6 @@
 //! The texts of `bagit.txt` and `bag-info.txt` (RFC 8493, sections 2.1.1 and 2.2.2).
 ghost use Rattle.std.specs.Prelude.{◌≡◌, sum_by};
-ghost use Rattle.dep_docs_out.specs.Made.{Makes};
+ghost use Rattle.dep_docs_out.specs.Made.{MakesItems};
 ghost use Rattle.dep_manifest.specs.TagFiles.{bagit_text};
 ghost use Rattle.dep_manifest.specs.Reported.{reported_info};
 
@@ -13,7 +13,7 @@ const DECLARATION: &[u8] = b"BagIt-Version: 1.0\nTag-File-Character-Encoding: UT
 
 /// Returns the text of `bagit.txt`: version 1.0 of BagIt, and UTF-8.
 pub fn declaration(alloc: Global) -> Result<Vec<u8>, AllocError>
-    ensures { Makes result bagit_text }
+    ensures { MakesItems result bagit_text }
 {
     DECLARATION.to_vec(alloc)
 }
@@ -21,7 +21,7 @@ pub fn declaration(alloc: Global) -> Result<Vec<u8>, AllocError>
 /// Returns the text of `bag-info.txt`: the day of the last change in UTC, and how many bytes and files the
 /// payload has.
 pub fn information(alloc: Global, view: &ObjectView) -> Result<Vec<u8>, AllocError>
-    ensures { Makes result (reported_info view.now) }
+    ensures { MakesItems result (reported_info view.now) }
 {
     let rows = view.files.as_slice();
     let day = Moment::new(view.object.changed).civil_date();

@@ -1,6 +1,6 @@
 //! The tag manifests of a bag (RFC 8493, section 2.2.1).
 ghost use Rattle.std.specs.Prelude.{IfOk};
-ghost use Rattle.dep_docs_out.specs.Made.{Makes};
+ghost use Rattle.dep_docs_out.specs.Made.{MakesItems};
 ghost use Rattle.dep_manifest.specs.Reported.{AreTagManifests, reported_tag_manifest};
 
 use crate::algorithm::Algorithm;
@@ -24,12 +24,12 @@ pub struct TagManifests {
 
 impl TagManifests {
     ghost use Rattle.std.specs.Prelude.{ℕ, List, OnOk};
-    ghost use Rattle.dep_docs_out.specs.Made.{Makes};
+    ghost use Rattle.dep_docs_out.specs.Made.{MakesItems};
     ghost use Rattle.dep_manifest.specs.Reported.{AddsLines, AddsTagFiles};
 
     // Adds the lines of a file with these bytes, where they could be made.
     fn add_file(&mut self, path: &str, made: Result<Vec<u8>, AllocError>) -> Result<(), AllocError>
-        ensures { (bytes : List ℕ) → Makes made bytes
+        ensures { (bytes : List ℕ) → MakesItems made bytes
             → OnOk result (AddsLines self.old self.new (path.now, bytes)) }
     {
         let bytes = made?;
@@ -78,7 +78,7 @@ pub fn tag_manifest(
     view: &ObjectView,
     algorithm: Algorithm,
 ) -> Result<Vec<u8>, AllocError>
-    ensures { Makes result (reported_tag_manifest algorithm view.now) }
+    ensures { MakesItems result (reported_tag_manifest algorithm view.now) }
 {
     let TagManifests { sha256, sha512 } = both_tag_manifests(alloc, view)?;
     match algorithm {

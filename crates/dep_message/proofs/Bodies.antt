@@ -10,9 +10,9 @@ use Rattle.dep_body.specs.declared.frame.Framing.TheVariants.{Empty, Length, Chu
 use Rattle.dep_body.specs.declared.frame.FrameFault.{FrameFault}
 use Rattle.dep_message.specs.Heads.{is_due, is_head_only}
 use Rattle.dep_message.specs.Places.{Open, HasBytes}
-use Rattle.dep_message.specs.Stream.{HasHead, IsFaultText, bad_body, IsRequestText, IsContinueText, Waits, refusal_of}
-use Rattle.dep_message.specs.Giving.{Begins, BeginsWithHead}
-use Rattle.dep_message.specs.Working.{HasSize, IsBegun}
+use Rattle.dep_message.specs.Stream.{HasHead, IsFaultText, bad_body, IsRequestText, IsContinueText, Waits, frame_refusal}
+use Rattle.dep_message.specs.Giving.{BeginsWith, BeginsWithHead}
+use Rattle.dep_message.specs.Working.{HasBodySize, IsBegun}
 use Rattle.dep_message.specs.declared.message.Message.{Message}
 use Rattle.dep_message.proofs.Reading.{has_bytes}
 
@@ -23,7 +23,7 @@ due_now continued awaits p q = rw (p, q) refl
 -- the head alone, whose client waits
 pub waiting_head : (limit : ℕ) (continued : Bool) (bytes : List ℕ) (n : ℕ) (head : HeadParts) (frame : Framing)
     → IsHeadText (take n bytes) head → framing limit head ≡ Ok frame → is_due continued head frame ≡ true
-    → Begins (IsContinueText limit continued) bytes
+    → BeginsWith (IsContinueText limit continued) bytes
 waiting_head limit continued bytes n head frame is_head framed due_is = (
   take n bytes ++ [],
   drop n bytes,
@@ -48,7 +48,7 @@ waits_for_body limit continued front body head frame b part =
 
 pub body_fault : (limit : ℕ) (continued : Bool) (front text behind : List ℕ) (head : HeadParts) (frame : Framing) (fault : FrameFault)
     → IsBegun limit continued front head frame → IsBodyFault limit frame text fault
-    → Begins (λ whole. IsFaultText limit continued whole (refusal_of fault) (is_head_only head)) (front ++ (text ++ behind))
+    → BeginsWith (λ whole. IsFaultText limit continued whole (frame_refusal fault) (is_head_only head)) (front ++ (text ++ behind))
 body_fault limit continued front text behind head frame fault b is_fault = (
   front ++ text,
   behind,
@@ -57,14 +57,14 @@ body_fault limit continued front text behind head frame fault b is_fault = (
 )
 
 -- a body of so many bytes has come whole
-pub sized_body : (limit : ℕ) (frame : Framing) (size : ℕ) (bytes content : List ℕ) → HasSize frame size → size ≤ length bytes → content ≡ take size bytes
+pub sized_body : (limit : ℕ) (frame : Framing) (size : ℕ) (bytes content : List ℕ) → HasBodySize frame size → size ≤ length bytes → content ≡ take size bytes
     → IsBodyText limit frame (take size bytes) content
 sized_body limit Empty size bytes content none within same = (ap (λ n. take n bytes) none, same ∙ ap (λ n. take n bytes) none)
 sized_body limit (Length n) size bytes content is within same = (length-take-le size bytes within ∙ is, same)
 sized_body limit Chunked size bytes content is within same = absurd is
 
 -- and one with some bytes to come has a length
-pub sized_frame : (frame : Framing) (size : ℕ) → HasSize frame size → 0 < size → frame ≡ Length size
+pub sized_frame : (frame : Framing) (size : ℕ) → HasBodySize frame size → 0 < size → frame ≡ Length size
 sized_frame Empty size none some = absurd (omega (arith, none, some))
 sized_frame (Length n) size is some = ap Length (sym is)
 sized_frame Chunked size is some = absurd is

@@ -11,10 +11,10 @@ use Rattle.dep_body.specs.declared.frame.FrameFault.{FrameFault}
 use Rattle.dep_body.proofs.ChunkLemmas.{chunks_none}
 use Rattle.dep_body.proofs.LineEnds.{end_nil}
 use Rattle.dep_body.proofs.OneBody.{body_no_part}
-use Rattle.dep_message.specs.Giving.{Begins, BeginsWithHead}
+use Rattle.dep_message.specs.Giving.{BeginsWith, BeginsWithHead}
 use Rattle.dep_message.specs.Heads.{is_head_only}
 use Rattle.dep_message.specs.Places.{Open}
-use Rattle.dep_message.specs.Stream.{IsFaultText, IsRequestText, Waits, refusal_of}
+use Rattle.dep_message.specs.Stream.{IsFaultText, IsRequestText, Waits, frame_refusal}
 use Rattle.dep_message.specs.Working.{IsBegun, ReadsChunks}
 use Rattle.dep_message.specs.declared.progress.ChunkedRequest.{ChunkedRequest}
 use Rattle.dep_message.specs.declared.used.UsedBytes.{UsedBytes}
@@ -102,9 +102,9 @@ module _ (limit : ℕ) (continued : Bool) (request : ChunkedRequest) (piece buff
 
   -- the body shows a fault
   pub faulty_now : (fault : FrameFault) → ShowsFault l content r.fed piece fault
-      → Begins (λ text. IsFaultText limit continued text (refusal_of fault) (is_head_only request.head)) (request.used.items ++ buffer)
+      → BeginsWith (λ text. IsFaultText limit continued text (frame_refusal fault) (is_head_only request.head)) (request.used.items ++ buffer)
   faulty_now fault s =
-      subst (Begins (λ text. IsFaultText limit continued text (refusal_of fault) (is_head_only request.head)))
+      subst (BeginsWith (λ text. IsFaultText limit continued text (frame_refusal fault) (is_head_only request.head)))
       (ap (λ t. r.front ++ t) (sym s.stream_is) ∙ sym (whole_is limit continued request piece buffer r same))
       (body_fault limit continued r.front s.text s.behind request.head InChunks fault r.begun (content, rw (sym same_limit) s.shown))
 

@@ -10,8 +10,8 @@ use Rattle.dep_body.specs.declared.frame.Framing.{Framing}
 use Rattle.dep_body.specs.declared.frame.FrameFault.{FrameFault}
 use Rattle.dep_message.specs.Heads.{is_head_only, closes, is_due, awaits_continue}
 use Rattle.dep_message.specs.Places.{Place, Open, Shut, left_to_read}
-use Rattle.dep_message.specs.Stream.{Item, Fault, Continue, Request, after_item, IsItemText, First, Reads, Waits, Spells, no_head, bad_framing, refusal_of}
-use Rattle.dep_message.specs.Giving.{Begins}
+use Rattle.dep_message.specs.Stream.{Item, Fault, Continue, Request, after_item, IsItemText, First, ReadsItems, Waits, Spells, no_head, bad_framing, frame_refusal}
+use Rattle.dep_message.specs.Giving.{BeginsWith}
 use Rattle.dep_message.specs.Working.{IsBegun}
 use Rattle.dep_message.specs.declared.message.Message.{Message}
 use Rattle.dep_message.proofs.BodyCases.{BodyCase, is_whole, is_faulty, is_part, body_cases}
@@ -31,7 +31,7 @@ abbrev FirstOrWaits : ℕ → Bool → List ℕ → Type 0
 FirstOrWaits limit continued bytes = ((item : Item) × (next : Place) × First limit continued bytes item next) ⊎ Waits limit (Open continued bytes)
 
 module _ (limit : ℕ) (continued : Bool) (bytes : List ℕ) where
-  stands_first : (item : Item) → Begins (λ text. IsItemText limit continued text item) bytes → FirstOrWaits limit continued bytes
+  stands_first : (item : Item) → BeginsWith (λ text. IsItemText limit continued text item) bytes → FirstOrWaits limit continued bytes
   stands_first item b = inl (item, after_item item b.0 b.1, record { text = b.0; behind = b.1; whole = b.2; spelled = b.3; goes_on = refl })
 
   behind_head : (n : ℕ) (head : HeadParts) (frame : Framing) → IsBegun limit continued (take n bytes) head frame → BodyCase limit frame (drop n bytes)
@@ -45,8 +45,8 @@ module _ (limit : ℕ) (continued : Bool) (bytes : List ℕ) where
         whole_request limit continued (take n bytes) text m frame begun body,
       )
   behind_head n head frame begun (is_faulty text behind fault is shown) =
-      stands_first (Fault (refusal_of fault) (is_head_only head))
-      (subst (Begins (λ text. IsItemText limit continued text (Fault (refusal_of fault) (is_head_only head))))
+      stands_first (Fault (frame_refusal fault) (is_head_only head))
+      (subst (BeginsWith (λ text. IsItemText limit continued text (Fault (frame_refusal fault) (is_head_only head))))
       (ap (λ t. take n bytes ++ t) (sym is) ∙ take-append-drop n bytes)
       (body_fault limit continued (take n bytes) text behind head frame fault begun shown))
   behind_head n head frame begun (is_part part) = inr (waits_behind limit continued bytes n head frame begun part)
@@ -60,7 +60,7 @@ module _ (limit : ℕ) (continued : Bool) (bytes : List ℕ) where
   some_head : (n : ℕ) (head : HeadParts) → IsHeadText (take n bytes) head → (r : Result Framing FrameFault) → framing limit head ≡ r
       → FirstOrWaits limit continued bytes
   some_head n head is_head (Err fault) bad =
-      stands_first (Fault (refusal_of fault) (is_head_only head)) (take n bytes, drop n bytes, sym (take-append-drop n bytes), bad_framing fault is_head bad)
+      stands_first (Fault (frame_refusal fault) (is_head_only head)) (take n bytes, drop n bytes, sym (take-append-drop n bytes), bad_framing fault is_head bad)
   some_head n head is_head (Ok frame) framed = good_head n head frame is_head framed (is_due continued head frame) refl
 
   -- the limit is reached without an end
@@ -113,7 +113,7 @@ first_less limit continued bytes (Request m) next f =
 -- ---- one item after another
 
 abbrev Spelled : ℕ → Place → Type 0
-Spelled limit from = (items : List Item) × (left : Place) × Reads limit from items left × Waits limit left
+Spelled limit from = (items : List Item) × (left : Place) × ReadsItems limit from items left × Waits limit left
 
 spelled_from : (n limit : ℕ) (from : Place) → left_to_read from < n → NotNot (Spelled limit from)
 spelled_from zero limit from l never = absurd (omega arith)

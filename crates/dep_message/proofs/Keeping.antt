@@ -6,7 +6,7 @@ use Rattle.dep_head.specs.Head.{HeadParts, head_end, head_limit}
 use Rattle.dep_body.specs.declared.frame.Framing.{Framing}
 use Rattle.dep_message.specs.Giving.{BeginsWithHead}
 use Rattle.dep_message.specs.Places.{Reading, Open}
-use Rattle.dep_message.specs.Working.{IsFresh, IsItem, IsKnown, IsAtHead, IsBegun, IsReadTo, ReadsChunks, Keeps, bytes_with, first_of, kept_bytes, reading_of}
+use Rattle.dep_message.specs.Working.{IsUnsearched, IsItem, IsKnownProgress, IsAtHead, IsBegun, IsReadTo, ReadsChunks, Keeps, bytes_with, first_found, kept_bytes, reading_of}
 use Rattle.dep_message.specs.Stream.{IsRequestText, Waits}
 use Rattle.dep_message.specs.declared.first.FramedHead.{FramedHead}
 use Rattle.dep_message.specs.declared.intake.Standing.{Standing}
@@ -30,13 +30,13 @@ abbrev pub IsFoundIn : (unparsed : Unparsed) → List ℕ → Unparsed → Type 
 IsFoundIn unparsed bytes new = Keeps unparsed.limit unparsed.continued bytes new × IsReadTo unparsed.limit unparsed.continued bytes new.progress
 
 -- with nothing known of the first request, the bytes are those of the buffer
-pub keeps_fresh : (limit : ℕ) (continued : Bool) (bytes : List ℕ) (unparsed : Unparsed) → IsFresh unparsed
+pub keeps_fresh : (limit : ℕ) (continued : Bool) (bytes : List ℕ) (unparsed : Unparsed) → IsUnsearched unparsed
     → unparsed.limit ≡ limit → unparsed.continued ≡ continued → unparsed.buffer ≡ bytes → Keeps limit continued bytes unparsed
 keeps_fresh limit continued bytes unparsed fresh same_limit same_continued same_bytes = record {
   limit_is = same_limit;
   continued_is = same_continued;
   bytes_are = ap (λ (p : Progress). bytes_with p unparsed.buffer) fresh ∙ same_bytes;
-  known = subst (λ (p : Progress). IsKnown unparsed.limit unparsed.continued unparsed.buffer p) (sym fresh) (searched_none unparsed.buffer);
+  known = subst (λ (p : Progress). IsKnownProgress unparsed.limit unparsed.continued unparsed.buffer p) (sym fresh) (searched_none unparsed.buffer);
 }
 
 -- no head ends in the bytes, and all were searched
@@ -50,7 +50,7 @@ keeps_searched unparsed new n new_is n_is waits =
     )
 
 -- the head of a request was used, and the bytes behind it stand apart
-pub keeps_sized : (unparsed : Unparsed) (request : SizedRequest) → IsKnown unparsed.limit unparsed.continued unparsed.buffer (Sized request)
+pub keeps_sized : (unparsed : Unparsed) (request : SizedRequest) → IsKnownProgress unparsed.limit unparsed.continued unparsed.buffer (Sized request)
     → Keeps unparsed.limit unparsed.continued (request.used.items ++ request.behind) (record unparsed { progress = Sized request })
 keeps_sized unparsed request known = record { limit_is = refl; continued_is = refl; bytes_are = refl; known = known }
 
@@ -75,13 +75,13 @@ unchanged unparsed first at = (
 )
 
 -- the item that stands first was found
-pub keeps_found : (unparsed new : Unparsed) (bytes : List ℕ) (item : Found) (used : UsedBytes) → new ≡ record unparsed { progress = first_of item used }
+pub keeps_found : (unparsed new : Unparsed) (bytes : List ℕ) (item : Found) (used : UsedBytes) → new ≡ record unparsed { progress = first_found item used }
     → used.items ++ unparsed.buffer ≡ bytes → IsItem unparsed.limit unparsed.continued used.items unparsed.buffer item → IsFoundIn unparsed bytes new
 keeps_found unparsed new bytes item used new_is whole is =
     subst (IsFoundIn unparsed bytes) (sym new_is) (record { limit_is = refl; continued_is = refl; bytes_are = whole; known = is }, tt)
 
 -- and none of its bytes were used
-pub keeps_first : (unparsed new : Unparsed) (item : Found) (used : UsedBytes) → new ≡ record unparsed { progress = first_of item used }
+pub keeps_first : (unparsed new : Unparsed) (item : Found) (used : UsedBytes) → new ≡ record unparsed { progress = first_found item used }
     → used.items ≡ [] → IsItem unparsed.limit unparsed.continued [] unparsed.buffer item → IsFoundIn unparsed unparsed.buffer new
 keeps_first unparsed new item used new_is none is =
     keeps_found unparsed new unparsed.buffer item used new_is (ap (λ l. l ++ unparsed.buffer) none)
@@ -89,7 +89,7 @@ keeps_first unparsed new item used new_is none is =
 
 -- a whole request was, whose last bytes were the first of the buffer
 pub keeps_request : (unparsed new : Unparsed) (bytes : List ℕ) (used : UsedBytes) (count : ℕ) (m : Message)
-    → new ≡ record unparsed { buffer = drop count unparsed.buffer; progress = first_of (F.Message m) used }
+    → new ≡ record unparsed { buffer = drop count unparsed.buffer; progress = first_found (F.Message m) used }
     → used.items ++ drop count unparsed.buffer ≡ bytes → IsRequestText unparsed.limit unparsed.continued used.items m → IsFoundIn unparsed bytes new
 keeps_request unparsed new bytes used count m new_is whole is =
     keeps_found (record unparsed { buffer = drop count unparsed.buffer }) new bytes (F.Message m) used new_is whole is
@@ -98,7 +98,7 @@ keeps_request unparsed new bytes used count m new_is whole is =
 pub keeps_front : (unparsed new : Unparsed) (used : UsedBytes) (n size : ℕ) (frame : Framing) (m : Message)
     → IsBegun unparsed.limit unparsed.continued (take n unparsed.buffer) m.head frame → IsBodyText unparsed.limit frame (take size (drop n unparsed.buffer)) m.content
     → used.items ≡ take (n + size) unparsed.buffer
-    → new ≡ record unparsed { buffer = drop (n + size) unparsed.buffer; progress = first_of (F.Message m) used } → IsFoundIn unparsed unparsed.buffer new
+    → new ≡ record unparsed { buffer = drop (n + size) unparsed.buffer; progress = first_found (F.Message m) used } → IsFoundIn unparsed unparsed.buffer new
 keeps_front unparsed new used n size frame m begun is_body used_is new_is =
     keeps_request unparsed new unparsed.buffer used (n + size) m new_is
     (ap (λ l. l ++ drop (n + size) unparsed.buffer) used_is ∙ take-append-drop (n + size) unparsed.buffer)
@@ -128,7 +128,7 @@ keeps_apart old new n request begun used_is behind_is new_is =
 pub keeps_body : (unparsed new : Unparsed) (request : SizedRequest) (used : UsedBytes) (rest : List ℕ) (m : Message)
     → IsBegun unparsed.limit unparsed.continued request.used.items m.head (Length request.length) → request.length ≤ length request.behind
     → used.items ≡ request.used.items ++ take request.length request.behind → rest ≡ drop request.length request.behind
-    → m.content ≡ take request.length request.behind → new ≡ record unparsed { buffer = rest; progress = first_of (F.Message m) used }
+    → m.content ≡ take request.length request.behind → new ≡ record unparsed { buffer = rest; progress = first_found (F.Message m) used }
     → IsFoundIn unparsed (request.used.items ++ request.behind) new
 keeps_body unparsed new request used rest m begun within used_is rest_is content_is new_is =
     let front = request.used.items in

@@ -13,7 +13,7 @@ use Rattle.dep_body.proofs.Splits.{fronts_same, backs_same}
 use Rattle.dep_body.proofs.OneBody.{one_body, one_fault as one_body_fault, body_no_fault, body_no_part, fault_no_part}
 use Rattle.dep_message.specs.Heads.{is_head_only, is_due}
 use Rattle.dep_message.specs.Places.{Place, Open, Shut}
-use Rattle.dep_message.specs.Stream.{Item, Fault, Continue, Request, after_item, refusal_of, HasHead, IsNoHead, IsFaultText, no_head, bad_framing, bad_body, IsContinueText, IsRequestText, IsItemText, FirstAt, Reads, HasPartOfBody, Waits, Spells}
+use Rattle.dep_message.specs.Stream.{Item, Fault, Continue, Request, after_item, frame_refusal, HasHead, IsNoHead, IsFaultText, no_head, bad_framing, bad_body, IsContinueText, IsRequestText, IsItemText, FirstAt, ReadsItems, HasPartOfBody, Waits, Spells}
 use Rattle.dep_message.specs.declared.message.Message.{Message}
 
 -- what is behind equal fronts is equal
@@ -132,7 +132,7 @@ one_fault limit continued a b x y e (no_head n) (bad_body {head} {frame} {body} 
 one_fault limit continued a b x y e (bad_framing {head} fault t bad) (no_head m) = absurd (no_head_first b a y x head (sym e) m t)
 one_fault limit continued a b x y e (bad_framing {head} fault t bad) (bad_framing {head = other} second u worse) =
     let same = heads a b x y head other e t u in
-    (ap refusal_of (cc (sym bad ∙ (ap (framing limit) same.head ∙ worse))), ap is_head_only same.head)
+    (ap frame_refusal (cc (sym bad ∙ (ap (framing limit) same.head ∙ worse))), ap is_head_only same.head)
 one_fault limit continued a b x y e (bad_framing {head} fault t bad) (bad_body {head = other} {frame} {body} second p worse) =
     absurd (good_or_bad limit continued false a b x y body head other frame e t bad p)
 one_fault limit continued a b x y e (bad_body {head} {frame} {body} fault p bad) (no_head m) = absurd (good_or_none limit continued false b a y x body head frame (sym e) m p)
@@ -141,7 +141,7 @@ one_fault limit continued a b x y e (bad_body {head} {frame} {body} fault p bad)
 one_fault limit continued a b x y e (bad_body {head} {frame} {body} fault p bad) (bad_body {head = other} {frame = also} {body = others} second q worse) =
     let same = good_heads limit continued false false a b x y body others head other frame also e p q in
     let one = one_body_fault limit also body others x y fault second same.rest (subst (λ (f : Framing). IsBodyFault limit f body fault) same.frame bad) worse in
-    (ap refusal_of one.1, ap is_head_only same.head)
+    (ap frame_refusal one.1, ap is_head_only same.head)
 
 -- where an item stands, no other does
 one_first : (limit : ℕ) (continued : Bool) (i j : Item) (a b x y : List ℕ) → a ++ x ≡ b ++ y
@@ -223,19 +223,19 @@ waits_none limit (Open continued bytes) next item (inr p) f =
 waits_none limit Shut next item w f = f
 
 -- what a longer reading reads begins with what a shorter one does
-pub reads_prefix : (limit : ℕ) (xs ys : List Item) (from p q : Place) → Reads limit from xs p → Reads limit from ys q → Waits limit q
-    → (zs : List Item) × (ys ≡ xs ++ zs) × Reads limit p zs q
-reads_prefix limit [] ys from p q r s w = (ys, refl, subst (λ (a : Place). Reads limit a ys q) (sym r) s)
+pub reads_prefix : (limit : ℕ) (xs ys : List Item) (from p q : Place) → ReadsItems limit from xs p → ReadsItems limit from ys q → Waits limit q
+    → (zs : List Item) × (ys ≡ xs ++ zs) × ReadsItems limit p zs q
+reads_prefix limit [] ys from p q r s w = (ys, refl, subst (λ (a : Place). ReadsItems limit a ys q) (sym r) s)
 reads_prefix limit (x ∷ xs) [] from p q r s w = absurd (waits_none limit from r.0 x (subst (λ (a : Place). Waits limit a) s w) r.1)
 reads_prefix limit (x ∷ xs) (y ∷ ys) from p q r s w =
     let o = one_at limit from x y r.0 s.0 r.1 s.1 in
-    let k = reads_prefix limit xs ys r.0 p q r.2 (subst (λ (a : Place). Reads limit a ys q) (sym o.1) s.2) w in
+    let k = reads_prefix limit xs ys r.0 p q r.2 (subst (λ (a : Place). ReadsItems limit a ys q) (sym o.1) s.2) w in
     (k.0, λ i. sym o.0 i ∷ k.1 i, k.2)
 
 -- a stream spells one list of items, and leaves one place
 pub one_spelling : (limit : ℕ) (stream : List ℕ) (xs ys : List Item) (p q : Place) → Spells limit stream xs p → Spells limit stream ys q → (xs ≡ ys) × (p ≡ q)
 one_spelling limit stream xs ys p q f g = same (reads_prefix limit xs ys (Open false stream) p q f.reads g.reads g.waits)
   where
-    same : (k : (zs : List Item) × (ys ≡ xs ++ zs) × Reads limit p zs q) → (xs ≡ ys) × (p ≡ q)
+    same : (k : (zs : List Item) × (ys ≡ xs ++ zs) × ReadsItems limit p zs q) → (xs ≡ ys) × (p ≡ q)
     same ([], e, r) = (sym (e ∙ append-nil xs), sym r)
     same (z ∷ zs, e, r) = absurd (waits_none limit p r.0 z f.waits r.1)

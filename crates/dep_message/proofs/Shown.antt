@@ -1,11 +1,11 @@
 -- What was found first is shown or taken.
 use Rattle.std.proofs.Common.{◌≡◌, ◌⊎◌, inl, inr, ℕ, Bool, true, false, List, ◌++◌, Some, refl, sym, ap, subst, ◌∙◌}
-use Rattle.dep_message.specs.Giving.{Gives}
+use Rattle.dep_message.specs.Giving.{GivesStep}
 use Rattle.dep_message.specs.Heads.{closes}
 use Rattle.dep_message.specs.Places.{Place, Open, Reading}
 use Rattle.dep_message.specs.Showing.{IsNoRequest, ShowsNext}
 use Rattle.dep_message.specs.Stream.{Fault, Continue, Request, FirstAt, Waits, after_item}
-use Rattle.dep_message.specs.Working.{Finds, IsItem, IsKnown, IsReadTo, Keeps, ShowsFound, bytes_with}
+use Rattle.dep_message.specs.Working.{Finds, IsItem, IsKnownProgress, IsReadTo, Keeps, ShowsFound, bytes_with}
 use Rattle.dep_message.specs.declared.intake.Step.{Step}
 use Rattle.dep_message.specs.declared.intake.Step.TheVariants as S
 use Rattle.dep_message.specs.declared.message.Message.{Message}
@@ -60,7 +60,7 @@ pub shows_kept : {X : Type 0} (sees : X → X → Message → Type 0) (before af
     → Keeps limit continued bytes unparsed → (first : FirstItem) → unparsed.progress ≡ First first → (shown : Bool) → ShowsFound sees before after first.item shown
     → ShowsNext sees before after limit (Open continued bytes) shown
 shows_kept sees before after limit continued bytes unparsed keeps first is shown s =
-    let known = subst (λ (p : Progress). IsKnown unparsed.limit unparsed.continued unparsed.buffer p) is keeps.known in
+    let known = subst (λ (p : Progress). IsKnownProgress unparsed.limit unparsed.continued unparsed.buffer p) is keeps.known in
     let same : first.used.items ++ unparsed.buffer ≡ bytes = sym (ap (λ (p : Progress). bytes_with p unparsed.buffer) is) ∙ keeps.bytes_are in
     subst (λ (r : Reading). ShowsNext sees before after r.limit r.place shown)
     (λ i. record { limit = keeps.limit_is i; place = Open (keeps.continued_is i) (same i); is_dead = false })
@@ -88,7 +88,7 @@ takes_found unparsed used (F.Fault refusal head_only) is progress fresh reported
     (is, refl, (keeps_fresh unparsed.limit reported unparsed.buffer (record unparsed { progress = progress; continued = reported }) fresh refl refl refl).known)
 
 -- behind a preview the next step is the request that was shown
-pub shown_next : (old new : Reading) (m : Message) (next : Place) (step : Step) → FirstAt old.limit old.place (Request m) next → Gives old new step
+pub shown_next : (old new : Reading) (m : Message) (next : Place) (step : Step) → FirstAt old.limit old.place (Request m) next → GivesStep old new step
     → (step ≡ S.Message m (closes m.head)) × (new.place ≡ next)
 shown_next old new m next S.Continue100 f g = let o = one_at old.limit old.place (Request m) Continue next new.place f g.first in absurd (cc (o.0))
 shown_next old new m next (S.Message k is_last) f g =

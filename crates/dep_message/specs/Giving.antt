@@ -8,12 +8,12 @@ use Rattle.dep_message.specs.declared.intake.Step.{Step}
 use Rattle.dep_message.specs.declared.intake.Step.TheVariants.{Continue100, Message, Refused, NeedMore, Dead}
 
 -- the bytes begin with a text of this kind
-abbrev pub Begins : (List ℕ → Type 0) → List ℕ → Type 0
-Begins IsText bytes = (text : List ℕ) × (behind : List ℕ) × (bytes ≡ text ++ behind) × IsText text
+abbrev pub BeginsWith : (List ℕ → Type 0) → List ℕ → Type 0
+BeginsWith IsText bytes = (text : List ℕ) × (behind : List ℕ) × (bytes ≡ text ++ behind) × IsText text
 
 -- a head stands first, but perhaps for its target
 abbrev pub BeginsWithHead : List ℕ → Type 0
-BeginsWithHead bytes = Begins IsHeadOfAnyTarget bytes
+BeginsWithHead bytes = BeginsWith IsHeadOfAnyTarget bytes
 
 -- so memory may be wanted, since a head is copied
 abbrev pub HasFirstHead : Place → Type 0
@@ -34,9 +34,9 @@ pub record Takes (old new : Reading) (item : Item) : Type 0 where
   pub less : left_to_read new.place < left_to_read old.place
 
 -- the step is the first item, which is taken, or why there is none, and then nothing is taken
-abbrev pub Gives : Reading → Reading → Step → Type 0
-Gives old new Continue100 = Takes old new Continue
-Gives old new (Message m is_last) = Takes old new (Request m) × (is_last ≡ closes m.head)
-Gives old new (Refused refusal head_only) = Takes old new (Fault refusal head_only)
-Gives old new NeedMore = (new ≡ old) × Waits old.limit old.place × (old.is_dead ≡ false)
-Gives old new Dead = (new ≡ old) × (old.place ≡ Shut) × (old.is_dead ≡ true)
+abbrev pub GivesStep : Reading → Reading → Step → Type 0
+GivesStep old new Continue100 = Takes old new Continue
+GivesStep old new (Message m is_last) = Takes old new (Request m) × (is_last ≡ closes m.head)
+GivesStep old new (Refused refusal head_only) = Takes old new (Fault refusal head_only)
+GivesStep old new NeedMore = (new ≡ old) × Waits old.limit old.place × (old.is_dead ≡ false)
+GivesStep old new Dead = (new ≡ old) × (old.place ≡ Shut) × (old.is_dead ≡ true)

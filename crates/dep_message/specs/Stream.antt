@@ -28,9 +28,9 @@ after_item Continue text behind = Open true (text ++ behind)
 after_item (Request m) text behind = if closes m.head then Shut else Open false behind
 
 -- why a body is refused
-abbrev pub refusal_of : FrameFault → Refusal
-refusal_of Bad = BadRequest
-refusal_of TooLarge = MaxUploadSizeExceeded
+abbrev pub frame_refusal : FrameFault → Refusal
+frame_refusal Bad = BadRequest
+frame_refusal TooLarge = MaxUploadSizeExceeded
 
 -- a front that is no head: it ends as one, or reaches the limit without an end
 abbrev pub IsNoHead : List ℕ → Type 0
@@ -52,10 +52,10 @@ pub data IsFaultText (limit : ℕ) (continued : Bool) (text : List ℕ) : Refusa
   no_head : IsNoHead text → IsFaultText limit continued text BadRequest false
   bad_framing : {head : HeadParts} (fault : FrameFault) → IsHeadText text head
       → framing limit head ≡ Err fault
-      → IsFaultText limit continued text (refusal_of fault) (is_head_only head)
+      → IsFaultText limit continued text (frame_refusal fault) (is_head_only head)
   bad_body : {head : HeadParts} {frame : Framing} {body : List ℕ} (fault : FrameFault)
       → HasHead limit continued false text head frame body → IsBodyFault limit frame body fault
-      → IsFaultText limit continued text (refusal_of fault) (is_head_only head)
+      → IsFaultText limit continued text (frame_refusal fault) (is_head_only head)
 
 -- the head of a request whose client waits for `100 Continue`
 pub record IsContinueText (limit : ℕ) (continued : Bool) (text : List ℕ) : Type 0 where
@@ -89,10 +89,10 @@ FirstAt limit (Open continued bytes) item next = First limit continued bytes ite
 FirstAt limit Shut item next = ⊥
 
 -- from one place, these items one after another lead to the other
-abbrev pub Reads : ℕ → Place → List Item → Place → Type 0
-Reads limit from [] to = to ≡ from
-Reads limit from (item ∷ items) to =
-    (next : Place) × FirstAt limit from item next × Reads limit next items to
+abbrev pub ReadsItems : ℕ → Place → List Item → Place → Type 0
+ReadsItems limit from [] to = to ≡ from
+ReadsItems limit from (item ∷ items) to =
+    (next : Place) × FirstAt limit from item next × ReadsItems limit next items to
 
 -- a good head whose body has not come whole, and shows no fault
 pub record HasPartOfBody (limit : ℕ) (continued : Bool) (bytes : List ℕ) : Type 0 where
@@ -110,5 +110,5 @@ Waits limit Shut = Unit {0}
 
 -- a whole stream spells these items, and then less than a whole one
 pub record Spells (limit : ℕ) (stream : List ℕ) (items : List Item) (left : Place) : Type 0 where
-  pub reads : Reads limit (Open false stream) items left
+  pub reads : ReadsItems limit (Open false stream) items left
   pub waits : Waits limit left

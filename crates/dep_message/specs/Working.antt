@@ -7,7 +7,7 @@ use Rattle.dep_body.specs.Body.{IsPartOfBody}
 use Rattle.dep_body.specs.Feeding.{HasFed}
 use Rattle.dep_body.specs.declared.frame.Framing.{Framing}
 use Rattle.dep_body.specs.declared.frame.Framing.TheVariants.{Empty, Length, Chunked as InChunks}
-use Rattle.dep_message.specs.Giving.{Begins, BeginsWithHead}
+use Rattle.dep_message.specs.Giving.{BeginsWith, BeginsWithHead}
 use Rattle.dep_message.specs.Heads.{is_due}
 use Rattle.dep_message.specs.Places.{Reading, Open, Shut}
 use Rattle.dep_message.specs.Stream.{IsContinueText, IsFaultText, IsRequestText, Waits}
@@ -64,45 +64,45 @@ kept_bytes unparsed = bytes_with unparsed.progress unparsed.buffer
 abbrev pub IsItem : ℕ → Bool → (used buffer : List ℕ) → Found → Type 0
 IsItem limit continued used buffer (F.Message m) = IsRequestText limit continued used m
 IsItem limit continued used buffer F.Continue =
-    (used ≡ []) × Begins (IsContinueText limit continued) buffer
+    (used ≡ []) × BeginsWith (IsContinueText limit continued) buffer
 IsItem limit continued used buffer (F.Fault refusal head_only) =
-    Begins (λ text. IsFaultText limit continued text refusal head_only) (used ++ buffer)
+    BeginsWith (λ text. IsFaultText limit continued text refusal head_only) (used ++ buffer)
 
-abbrev pub IsFound : ℕ → Bool → (buffer : List ℕ) → FirstItem → Type 0
-IsFound limit continued buffer first = IsItem limit continued first.used.items buffer first.item
+abbrev pub IsFirstItem : ℕ → Bool → (buffer : List ℕ) → FirstItem → Type 0
+IsFirstItem limit continued buffer first = IsItem limit continued first.used.items buffer first.item
 
 -- what is known of the first request is so
-abbrev pub IsKnown : ℕ → Bool → List ℕ → Progress → Type 0
-IsKnown limit continued buffer (Searched n) = IsSearched n buffer
-IsKnown limit continued buffer (Sized request) =
+abbrev pub IsKnownProgress : ℕ → Bool → List ℕ → Progress → Type 0
+IsKnownProgress limit continued buffer (Searched n) = IsSearched n buffer
+IsKnownProgress limit continued buffer (Sized request) =
     (buffer ≡ []) × IsBegun limit continued request.used.items request.head (Length request.length)
-IsKnown limit continued buffer (Chunked request) = ReadsChunks limit continued request
-IsKnown limit continued buffer (First first) = IsFound limit continued buffer first
+IsKnownProgress limit continued buffer (Chunked request) = ReadsChunks limit continued request
+IsKnownProgress limit continued buffer (First first) = IsFirstItem limit continued buffer first
 
 -- the request before is done with, and nothing is known of the next
-abbrev pub IsFresh : Unparsed → Type 0
-IsFresh unparsed = unparsed.progress ≡ Searched 0
+abbrev pub IsUnsearched : Unparsed → Type 0
+IsUnsearched unparsed = unparsed.progress ≡ Searched 0
 
 -- this was known of the first request, and was taken out of what is kept
 pub record HasLeft (unparsed : Unparsed) (progress : Progress) : Type 0 where
-  pub fresh : IsFresh unparsed
-  pub known : IsKnown unparsed.limit unparsed.continued unparsed.buffer progress
+  pub fresh : IsUnsearched unparsed
+  pub known : IsKnownProgress unparsed.limit unparsed.continued unparsed.buffer progress
 
 -- nothing is known of the first request yet, whose head is the first bytes of the buffer
 pub record IsAtHead (unparsed : Unparsed) (first : FramedHead) : Type 0 where
-  pub fresh : IsFresh unparsed
+  pub fresh : IsUnsearched unparsed
   pub within : first.length ≤ length unparsed.buffer
   pub begun : IsBegun unparsed.limit unparsed.continued (take first.length unparsed.buffer) first.head first.framing
 
 -- a body framed so has just so many bytes
-abbrev pub HasSize : Framing → ℕ → Type 0
-HasSize Empty size = size ≡ 0
-HasSize (Length n) size = size ≡ n
-HasSize InChunks size = ⊥
+abbrev pub HasBodySize : Framing → ℕ → Type 0
+HasBodySize Empty size = size ≡ 0
+HasBodySize (Length n) size = size ≡ n
+HasBodySize InChunks size = ⊥
 
 -- what the intake knows of the first request in its buffer is so
 abbrev pub IsWorking : Unparsed → Type 0
-IsWorking unparsed = IsKnown unparsed.limit unparsed.continued unparsed.buffer unparsed.progress
+IsWorking unparsed = IsKnownProgress unparsed.limit unparsed.continued unparsed.buffer unparsed.progress
 
 -- where the reading stands
 abbrev pub reading_of : Standing → Unparsed → Reading
@@ -123,9 +123,9 @@ abbrev pub FindsHead : ℕ → Bool → List ℕ → FirstHead → Type 0
 FindsHead limit continued bytes (H.Head first) =
     (first.length ≤ length bytes)
     × IsBegun limit continued (take first.length bytes) first.head first.framing
-FindsHead limit continued bytes H.Continue = Begins (IsContinueText limit continued) bytes
+FindsHead limit continued bytes H.Continue = BeginsWith (IsContinueText limit continued) bytes
 FindsHead limit continued bytes (H.Fault refusal head_only) =
-    Begins (λ text. IsFaultText limit continued text refusal head_only) bytes
+    BeginsWith (λ text. IsFaultText limit continued text refusal head_only) bytes
 FindsHead limit continued bytes H.Nothing = (head_end bytes ≡ None) × (length bytes < head_limit)
 
 -- a request that was found was shown, and nothing else is
@@ -136,8 +136,8 @@ ShowsFound sees before after F.Continue shown = (shown ≡ false) × (after ≡ 
 ShowsFound sees before after (F.Fault refusal head_only) shown = (shown ≡ false) × (after ≡ before)
 
 -- the first item was found
-abbrev pub first_of : Found → UsedBytes → Progress
-first_of item used = First (record { item = item; used = used })
+abbrev pub first_found : Found → UsedBytes → Progress
+first_found item used = First (record { item = item; used = used })
 
 -- the first item was found, or isn't complete
 abbrev pub IsReadTo : ℕ → Bool → List ℕ → Progress → Type 0
@@ -163,9 +163,9 @@ Finds limit continued bytes new (Some (F.Message m)) =
     (text : List ℕ) × (behind : List ℕ) × (bytes ≡ text ++ behind)
     × IsRequestText limit continued text m × (0 < length text) × Keeps limit false behind new
 Finds limit continued bytes new (Some F.Continue) =
-    Begins (IsContinueText limit continued) bytes × Keeps limit true bytes new
+    BeginsWith (IsContinueText limit continued) bytes × Keeps limit true bytes new
 Finds limit continued bytes new (Some (F.Fault refusal head_only)) =
-    Begins (λ text. IsFaultText limit continued text refusal head_only) bytes × (new.limit ≡ limit)
+    BeginsWith (λ text. IsFaultText limit continued text refusal head_only) bytes × (new.limit ≡ limit)
     × IsWorking new
 Finds limit continued bytes new None =
     Waits limit (Open continued bytes) × Keeps limit continued bytes new

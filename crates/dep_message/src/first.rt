@@ -2,7 +2,7 @@
 ghost use Rattle.std.specs.Prelude.{◌≡◌, ◌≤◌, length, take, MatchResult};
 ghost use Rattle.dep_head.specs.Head.{IsHeadText, head_end};
 ghost use Rattle.dep_message.specs.Giving.{BeginsWithHead};
-ghost use Rattle.dep_message.specs.Stream.{refusal_of};
+ghost use Rattle.dep_message.specs.Stream.{frame_refusal};
 ghost use Rattle.dep_message.specs.Working.{IsSearched, FindsHead};
 
 use crate::heads::{awaits_continue, is_without_body};
@@ -103,7 +103,7 @@ fn framed(limit: u64, continued: bool, head: Head, end: usize, bytes: &[u8]) -> 
 
 /// The refusal by which a fault of a body is answered: 413 for `TooLarge`, else 400.
 pub(crate) fn refusal_for(fault: FrameFault) -> Refusal
-    ensures { result ≡ refusal_of fault }
+    ensures { result ≡ frame_refusal fault }
 {
     match fault {
         FrameFault::Bad => Refusal::BadRequest,

@@ -1,7 +1,7 @@
 //! Takes the items of a connection's bytes, in whatever pieces these come.
 ghost use Rattle.std.specs.Prelude.{◌≡◌, ◌<◌, [], length, false, MatchResult, OnOk, OnErr};
 ghost use Rattle.dep_message.specs.Places.{Reading, Open, Shut, place_with, shut_reading, HasBytes};
-ghost use Rattle.dep_message.specs.Giving.{Gives, HasFirstHead};
+ghost use Rattle.dep_message.specs.Giving.{GivesStep, HasFirstHead};
 ghost use Rattle.dep_message.specs.Showing.{ShowsNext};
 
 use crate::heads::closes;
@@ -124,7 +124,7 @@ impl Intake {
     /// fault the intake is `Dead`. Behind a request that closes the connection (`closes`) no byte is read,
     /// and it returns `NeedMore`.
     pub fn next(&mut self) -> Result<Step, AllocError>
-        ensures { MatchResult result (Gives self.old self.new)
+        ensures { MatchResult result (GivesStep self.old self.new)
             (λ _. (self.new ≡ self.old) × HasBytes self.old.place × HasFirstHead self.old.place) }
     {
         match self.standing {

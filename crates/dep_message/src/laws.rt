@@ -1,9 +1,9 @@
 //! Laws of the definitions, apart from any code.
 ghost use Rattle.std.specs.Prelude.{◌≡◌, ℕ, Bool, List, ◌++◌};
-ghost use Rattle.dep_message.specs.Giving.{Gives};
+ghost use Rattle.dep_message.specs.Giving.{GivesStep};
 ghost use Rattle.dep_message.specs.Heads.{closes};
 ghost use Rattle.dep_message.specs.Places.{Place, Reading, place_with};
-ghost use Rattle.dep_message.specs.Stream.{Item, Request, FirstAt, Reads, IsRequestText, Spells};
+ghost use Rattle.dep_message.specs.Stream.{Item, Request, FirstAt, ReadsItems, IsRequestText, Spells};
 ghost use Rattle.dep_message.specs.declared.intake.Step.{Step};
 ghost use Rattle.dep_message.specs.declared.intake.Step.TheVariants as Step;
 ghost use Rattle.dep_message.specs.declared.message.Message.{Message};
@@ -11,7 +11,7 @@ ghost use Rattle.dep_message.specs.declared.message.Message.{Message};
 /// What was read is read still when more bytes come, and what was left goes on with them.
 pub fn reading_carries_on()
     ensures { (limit : ℕ) (items : List Item) (from to : Place) (piece : List ℕ)
-        → Reads limit from items to → Reads limit (place_with from piece) items (place_with to piece) }
+        → ReadsItems limit from items to → ReadsItems limit (place_with from piece) items (place_with to piece) }
 {}
 
 /// Bytes begin with the text of at most one request.
@@ -23,7 +23,7 @@ pub fn one_request()
 /// Where a request stands first, as behind a preview that showed it, the next step is that request.
 pub fn shown_is_next()
     ensures { (old new : Reading) (m : Message) (next : Place) (step : Step)
-        → FirstAt old.limit old.place (Request m) next → Gives old new step
+        → FirstAt old.limit old.place (Request m) next → GivesStep old new step
         → (step ≡ Step.Message m (closes m.head)) × (new.place ≡ next) }
 {}
 

@@ -4,8 +4,8 @@ ghost use Rattle.dep_message.specs.Giving.{BeginsWithHead};
 ghost use Rattle.dep_message.specs.Heads.{is_head_only};
 ghost use Rattle.dep_message.specs.Places.{Open};
 ghost use Rattle.dep_message.specs.Showing.{ShowsNext};
-ghost use Rattle.dep_message.specs.Stream.{refusal_of};
-ghost use Rattle.dep_message.specs.Working.{HasLeft, HasSize, FindsHead, IsAtHead, IsReadOn, Keeps, Finds, FindsNext, ReadsOn, IsSearched, IsWorking, first_of, kept_bytes};
+ghost use Rattle.dep_message.specs.Stream.{frame_refusal};
+ghost use Rattle.dep_message.specs.Working.{HasLeft, HasBodySize, FindsHead, IsAtHead, IsReadOn, Keeps, Finds, FindsNext, ReadsOn, IsSearched, IsWorking, first_found, kept_bytes};
 ghost use Rattle.dep_message.specs.declared.progress.Progress.TheVariants.{Searched, Sized, Chunked};
 
 use crate::buffer::Buffer;
@@ -158,7 +158,7 @@ impl Unparsed {
 
     fn begin_sized(&mut self, first: FramedHead, size: usize) -> Result<(), AllocError>
         requires head { IsAtHead self.old first }
-        requires size { HasSize first.framing size }
+        requires size { HasBodySize first.framing size }
         ensures { ReadsOn self.old self.old.buffer self.new result }
     {
         let content = self.buffer.copy_behind(first.length, size)?;
@@ -268,7 +268,7 @@ impl Unparsed {
     // Keeps the fault of a body in chunks.
     fn keep_fault(&mut self, request: ChunkedRequest, fault: FrameFault)
         ensures { self.new ≡ record self.old {
-          progress = first_of (Found.Fault (refusal_of fault) (is_head_only request.head)) request.used;
+          progress = first_found (Found.Fault (frame_refusal fault) (is_head_only request.head)) request.used;
         } }
     {
         let ChunkedRequest { head, used, reader } = request;
@@ -279,7 +279,7 @@ impl Unparsed {
     }
 
     fn keep_found(&mut self, item: Found, used: UsedBytes)
-        ensures { self.new ≡ record self.old { progress = first_of item used } }
+        ensures { self.new ≡ record self.old { progress = first_found item used } }
     {
         self.keep_place(Progress::First(FirstItem { item, used }));
     }

@@ -45,7 +45,7 @@ use Rattle.dep_migrations.specs.Beside.{AreFree, with_ours, AddsIndexes}
 use Rattle.dep_migrations.proofs.Placed.{ours, with_format, with_state, tables_are, state_tree, objects_tree, metadata_tree, files_tree, uploads_tree, segments_tree, timed_out_tree, blocks_tree, sha512s_tree, format_named, format_listed, state_named, state_listed, indexed_schema, indexed_rows, free_indexes}
 use Rattle.dep_tables.specs.Tables.{Tables, tables_of, tables_from}
 use Rattle.dep_tables.specs.Versions.{our_version}
-use Rattle.dep_migrations.specs.FirstTables.{Sees, no_schema, first_state, first_tables, IsBeside, GainsOurs}
+use Rattle.dep_migrations.specs.FirstTables.{Sees, no_schema, first_state, new_store_tables, IsBeside, GainsOurs}
 
 -- ---- how an INSERT is understood, by the table that its name finds
 
@@ -197,7 +197,7 @@ module _ (old mid named next new : Database) (added : AddsAll our_tables old mid
   later_empty = empty_behind named.trees next.trees new.trees (next_tree schema) (next_tree (with_format schema)) (omega (arith, state_tree schema)) (drop 2 (ours schema)) first_kept.1.1.1 second_kept.1.1.1
       (trees_above (next_tree (with_format schema)) (drop 2 our_tables) (with_state schema) (omega (arith, state_tree schema, objects_tree schema))) empty_at.1.1
 
-  rows_are : tables_from (next_tree schema) new.trees ≡ first_tables
+  rows_are : tables_from (next_tree schema) new.trees ≡ new_store_tables
   rows_are = λ i. record {
     format = format_rows i;
     state = (ap new.trees (sym (state_tree schema)) ∙ state_rows) i;
@@ -246,11 +246,11 @@ pub empty_ours : with_ours no_schema ≡ our_schema
 unfolding everything
 empty_ours = refl
 
-sees_first : (old new : State) → old.now.schema ≡ no_schema → GainsOurs old.now new.now → Sees new first_tables
+sees_first : (old new : State) → old.now.schema ≡ no_schema → GainsOurs old.now new.now → Sees new new_store_tables
 sees_first old new empty gained =
     let after = gained.made (subst HasCounters (sym empty) refl) in
     let schema : with_ours old.now.schema ≡ our_schema = ap with_ours empty ∙ empty_ours in
-    let rows : tables_of new ≡ first_tables = subst (λ s. tables_from (next_tree s) new.now.trees ≡ first_tables) empty after.1.rows in
+    let rows : tables_of new ≡ new_store_tables = subst (λ s. tables_from (next_tree s) new.now.trees ≡ new_store_tables) empty after.1.rows in
     let one : (tree : List Row) (row : Row) → tree ≡ row ∷ [] → IsTrue (is_int (rowid row)) → IsOrdered tree = λ tree row is keyed. subst IsOrdered (sym is) ((tt, tt), (keyed, tt)) in
     let none : (tree : List Row) → tree ≡ [] → IsOrdered tree = λ tree is. subst IsOrdered (sym is) (tt, tt) in
     record {
@@ -264,5 +264,5 @@ sees_first old new empty gained =
       rows = rows;
     }
 
-pub first_seen : {A E : Type 0} (r : Result A E) (old new : State) → old.now.schema ≡ no_schema → OnOk r (GainsOurs old.now new.now) → OnOk r (Sees new first_tables)
+pub first_seen : {A E : Type 0} (r : Result A E) (old new : State) → old.now.schema ≡ no_schema → OnOk r (GainsOurs old.now new.now) → OnOk r (Sees new new_store_tables)
 first_seen r old new empty gained = ok_then r gained (sees_first old new empty)

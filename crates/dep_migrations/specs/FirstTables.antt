@@ -31,13 +31,13 @@ abbrev pub first_state : StateRow
 first_state = record { clock = 0; next = record { object = 1; file = 1; upload = 1; change = 1 } }
 
 -- the tables of a new store
-abbrev pub first_tables : Tables
-first_tables = laws.first_tables (stored_format our_version ∷ [])
+abbrev pub new_store_tables : Tables
+new_store_tables = laws.first_tables (stored_format our_version ∷ [])
 
 -- what a database becomes in which our first tables are made
 pub record IsBeside (old : Database) (trees : Trees) : Type 0 where
   pub sound : IsSound (with_ours old.schema) trees
-  pub rows : tables_from (next_tree old.schema) trees ≡ first_tables
+  pub rows : tables_from (next_tree old.schema) trees ≡ new_store_tables
   pub others : KeepsRows old.schema.tables old.trees trees
 
 -- Our first tables are made, and our names were free.

@@ -6,8 +6,8 @@ use Rattle.sqlite.specs.Effect.{Database}
 use Rattle.sqlite.specs.State.{State, HasCleanDisk, ExecutesInside}
 
 -- inside a transaction, an Ok does this to the database that the connection sees
-abbrev pub Turns : {A E : Type 0} → State → State → Result A E → (Database → Database → Type 0) → Type 0
-Turns old new result does = HasCleanDisk new → IsTrue old.in_transaction
+abbrev pub TurnsDatabase : {A E : Type 0} → State → State → Result A E → (Database → Database → Type 0) → Type 0
+TurnsDatabase old new result does = HasCleanDisk new → IsTrue old.in_transaction
     → OnOk result (does old.now new.now)
 
 -- there an Ok has run this text

@@ -6,7 +6,7 @@ ghost use Rattle.dep_tables.specs.Schema.{our_tables};
 ghost use Rattle.dep_tables.specs.Clauses.{FailsToRun};
 ghost use Rattle.dep_migrations.specs.Faults.{FailsToCreate, FailsToAddRows, FailsToMake};
 ghost use Rattle.dep_migrations.specs.Texts.{add_format_text, add_state_text};
-ghost use Rattle.dep_migrations.specs.Running.{HasRun, Turns, WorksWithin};
+ghost use Rattle.dep_migrations.specs.Running.{HasRun, TurnsDatabase, WorksWithin};
 ghost use Rattle.dep_migrations.specs.FirstTables.{GainsOurs};
 ghost use Rattle.dep_migrations.specs.Making.{FillsOurs, MakesFirst, PutsFormat, PutsState, PutsFirstRows};
 
@@ -66,7 +66,7 @@ fn add_state<T: Statements>(tx: &mut T) -> Result<(), StoreFault>
 
 /// All tables, one after another.
 fn create_tables<T: Statements>(tx: &mut T) -> Result<(), StoreFault>
-    ensures adds { Turns (T.state tx.old) (T.state tx.new) result (AddsAll our_tables) }
+    ensures adds { TurnsDatabase (T.state tx.old) (T.state tx.new) result (AddsAll our_tables) }
     ensures works { WorksWithin T.lenders T.state tx.old tx.new result
         (FailsToCreate T.state tx.old tx.new) }
 {
@@ -89,7 +89,7 @@ fn add_rows<T: Statements>(tx: &mut T) -> Result<(), StoreFault>
 /// The tables of a new store and their indexes, where their names are free.
 pub fn make_tables<T: Statements>(tx: &mut T) -> Result<(), StoreFault>
     ensures ok { MakesFirst (T.state tx.old) (T.state tx.new) result }
-    ensures gains { Turns (T.state tx.old) (T.state tx.new) result GainsOurs }
+    ensures gains { TurnsDatabase (T.state tx.old) (T.state tx.new) result GainsOurs }
     ensures works { WorksWithin T.lenders T.state tx.old tx.new result
         (FailsToMake T.state tx.old tx.new) }
 {

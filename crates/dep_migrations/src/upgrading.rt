@@ -11,7 +11,7 @@ ghost use Rattle.dep_row_maps.specs.Sha512s.{upgraded};
 ghost use Rattle.dep_migrations.specs.Beside.{AreNewNamesFree};
 ghost use Rattle.dep_migrations.specs.Causes.{FailsSince};
 ghost use Rattle.dep_migrations.specs.FirstTables.{Sees};
-ghost use Rattle.dep_migrations.specs.Running.{Turns, WorksWithin};
+ghost use Rattle.dep_migrations.specs.Running.{TurnsDatabase, WorksWithin};
 ghost use Rattle.dep_migrations.specs.Texts.{create_sha512s_text};
 ghost use Rattle.dep_migrations.specs.Upgrading.{with_no_sha512s, with_sha512s, FailsToExtend, FailsToPut, FailsToRewrite};
 
@@ -22,7 +22,7 @@ use dep_types::StoreFault;
 
 /// The table `sha512s`, beside what is there.
 fn create_sha512s<T: Statements>(tx: &mut T) -> Result<(), StoreFault>
-    ensures adds { Turns (T.state tx.old) (T.state tx.new) result (Adds sha512s_table) }
+    ensures adds { TurnsDatabase (T.state tx.old) (T.state tx.new) result (Adds sha512s_table) }
     ensures works { WorksWithin T.lenders T.state tx.old tx.new result
         (FailsToRun create_sha512s_text [] (T.state tx.old) (T.state tx.new)) }
 {
@@ -34,7 +34,7 @@ fn extend_schema<T: Statements>(tx: &mut T) -> Result<(), StoreFault>
     ensures ok { HasCleanDisk (T.state tx.new) → IsTrue (T.state tx.old).in_transaction
         → IsOlder (T.state tx.old)
         → OnOk result (Sees (T.state tx.new) (with_no_sha512s (tables_of (T.state tx.old)))) }
-    ensures free { Turns (T.state tx.old) (T.state tx.new) result
+    ensures free { TurnsDatabase (T.state tx.old) (T.state tx.new) result
         (λ old _. AreNewNamesFree old.schema) }
     ensures works { WorksWithin T.lenders T.state tx.old tx.new result
         (FailsToExtend T.state tx.old tx.new) }
@@ -60,7 +60,7 @@ pub fn upgrade_tables<T: Statements>(tx: &mut T, values: &[FileSha512]) -> Resul
     ensures ok { HasCleanDisk (T.state tx.new) → IsTrue (T.state tx.old).in_transaction
         → IsOlder (T.state tx.old)
         → OnOk result (Sees (T.state tx.new) (upgraded values.now (tables_of (T.state tx.old)))) }
-    ensures free { Turns (T.state tx.old) (T.state tx.new) result
+    ensures free { TurnsDatabase (T.state tx.old) (T.state tx.new) result
         (λ old _. AreNewNamesFree old.schema) }
     ensures works { WorksWithin T.lenders T.state tx.old tx.new result
         (FailsToRewrite T.state tx.old tx.new values.now) }

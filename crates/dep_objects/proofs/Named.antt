@@ -5,12 +5,12 @@ use Rattle.std.proofs.lemmas.Cmp.{nat_list_cmp_total, tied_itself}
 use Rattle.std.specs.Cmp.Lexicographic.{slice_cmp}
 use Rattle.std.specs.FinMap as finmap
 use Rattle.dep_types.specs.State.{Texts}
-use Rattle.dep_row_maps.specs.Stored.{added, texts_in}
+use Rattle.dep_row_maps.specs.Stored.{with_added_text, texts_under}
 
 bytes_same : finmap.IsAntisymmetric (slice_cmp nat_cmp)
 bytes_same = finmap.slice_cmp-IsAntisymmetric finmap.nat_cmp-IsAntisymmetric
 
-texts_now : (m : Texts) (name : List ℕ) (texts : List (List ℕ)) → texts_in (finmap.insert m name texts) name ≡ texts
+texts_now : (m : Texts) (name : List ℕ) (texts : List (List ℕ)) → texts_under (finmap.insert m name texts) name ≡ texts
 texts_now m name texts =
     ap (λ o. unwrap_or o []) (finmap.get-insert nat_list_cmp_total m name texts name ∙ ap (λ o. cond (is_eq o) (Some texts) (finmap.get m name)) (tied_itself nat_list_cmp_total name))
 
@@ -25,7 +25,7 @@ insert_over m name a b = finmap.same_map nat_list_cmp_total bytes_same _ _ (λ q
     go q Greater = refl
 
 -- one more text of the name that is gathered last
-pub one_more : (m : Texts) (name key : List ℕ) (texts more : List (List ℕ)) (value : List ℕ) → name ≡ key → more ≡ texts ++ value ∷ [] → finmap.insert m name more ≡ added (finmap.insert m name texts) (key, value)
+pub one_more : (m : Texts) (name key : List ℕ) (texts more : List (List ℕ)) (value : List ℕ) → name ≡ key → more ≡ texts ++ value ∷ [] → finmap.insert m name more ≡ with_added_text (finmap.insert m name texts) (key, value)
 one_more m name key texts more value same grown =
     ap (finmap.insert m name) grown ∙ sym (insert_over m name texts (texts ++ value ∷ [])) ∙ ap (λ ts. finmap.insert (finmap.insert m name texts) name (ts ++ value ∷ [])) (sym (texts_now m name texts))
-    ∙ ap (λ k. added (finmap.insert m name texts) (k, value)) same
+    ∙ ap (λ k. with_added_text (finmap.insert m name texts) (k, value)) same

@@ -8,13 +8,13 @@ use Rattle.dep_types.specs.MetadataEntries.{joined, name_and_texts}
 use Rattle.dep_types.specs.declared.metadata.MetadataEntry.{MetadataEntry}
 use Rattle.dep_tables.specs.Tables.{Tables}
 use Rattle.dep_row_maps.specs.Owned.{placed, put_each}
-use Rattle.dep_row_maps.specs.Stored.{text_values, texts_in}
+use Rattle.dep_row_maps.specs.Stored.{text_values, texts_under}
 use Rattle.dep_row_maps.specs.TablesAre.{with_metadata, with_object}
 use Rattle.dep_objects.specs.declared.gathering.NamedTexts.{NamedTexts}
 
 -- the rows of these texts, where each name's stand behind those that it has
 abbrev pub rows_beside : ℕ → Texts → List (List ℕ × List (List ℕ)) → List Row
-rows_beside n have = flat_map (λ e. placed (text_values n e.0) (length (texts_in have e.0)) e.1)
+rows_beside n have = flat_map (λ e. placed (text_values n e.0) (length (texts_under have e.0)) e.1)
 
 -- the tables with these rows of texts put in
 abbrev pub with_texts : List Row → Tables → Tables
@@ -34,8 +34,8 @@ closed kept None = kept
 closed kept (Some last) = map.insert kept last.name last.texts.items
 
 -- the object with more texts behind those that it has
-abbrev pub with_more : Object → Texts → Object
-with_more o more = with_metadata o (joined (map.entries more) o.metadata)
+abbrev pub with_more_texts : Object → Texts → Object
+with_more_texts o more = with_metadata o (joined (map.entries more) o.metadata)
 
 -- where the object is there, the state with these metadata in it is so
 abbrev pub SetsMetadata : (n : ℕ) → Texts → State → (becomes : State → Type 0) → Type 0
@@ -45,4 +45,4 @@ SetsMetadata n texts s becomes = (o : Object) → map.get s.objects n ≡ Some o
 -- the same of texts that are put in behind those that it has
 abbrev pub AppendsMetadata : (n : ℕ) → (more : Texts) → State → (becomes : State → Type 0) → Type 0
 AppendsMetadata n more s becomes = (o : Object) → map.get s.objects n ≡ Some o
-    → becomes (with_object s n (with_more o more))
+    → becomes (with_object s n (with_more_texts o more))

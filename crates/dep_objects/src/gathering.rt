@@ -2,7 +2,7 @@
 
 ghost use Rattle.std.specs.Prelude.{◌≡◌, ◌<◌, ◌^◌, Some, None, IfOk, map as each};
 ghost use Rattle.std.specs.FinMap as map;
-ghost use Rattle.dep_row_maps.specs.Stored.{added, listed, grouped};
+ghost use Rattle.dep_row_maps.specs.Stored.{with_added_text, listed, grouped};
 ghost use Rattle.dep_row_maps.specs.Laws.{pair_of};
 ghost use Rattle.dep_row_maps.specs.TablesAre.{metadata_at};
 ghost use Rattle.dep_row_maps.specs.Clauses.{Finds};
@@ -23,7 +23,7 @@ struct NamedTexts {
 // stand together.
 fn begin(alloc: Global, metadata: &Metadata, row: MetadataRow) -> Result<NamedTexts, StoreFault>
     ensures reported { IfOk result (λ now.
-        closed metadata.now (Some now) ≡ added metadata.now (pair_of row)) }
+        closed metadata.now (Some now) ≡ with_added_text metadata.now (pair_of row)) }
     ensures name { IfOk result (λ now. now.name ≡ row.name) }
 {
     if metadata.get(row.name.as_str()).is_some() {
@@ -45,7 +45,7 @@ fn gather(
     row: MetadataRow,
 ) -> Result<NamedTexts, StoreFault>
     ensures reported { IfOk result (λ now.
-        closed metadata.new (Some now) ≡ added (closed metadata.old last) (pair_of row)) }
+        closed metadata.new (Some now) ≡ with_added_text (closed metadata.old last) (pair_of row)) }
     ensures name { IfOk result (λ now. now.name ≡ row.name) }
 {
     if let Some(mut last) = last {

@@ -2,7 +2,7 @@
 
 ghost use Rattle.std.specs.Prelude.{◌≡◌, ◌<◌, ◌^◌, IfOk, length};
 ghost use Rattle.std.specs.FinMap as map;
-ghost use Rattle.dep_row_maps.specs.Stored.{text_row, texts_in};
+ghost use Rattle.dep_row_maps.specs.Stored.{text_row, texts_under};
 ghost use Rattle.dep_row_maps.specs.Clauses.{ChangesMaps, ChangesTables};
 ghost use Rattle.dep_objects.specs.Texts.{with_entry, with_entries, AppendsMetadata, SetsMetadata};
 
@@ -51,7 +51,7 @@ fn put_texts<T: Statements>(
 }
 
 fn count_of(metadata: &Metadata, name: &Text) -> u64
-    ensures { result ≡ length (texts_in metadata.now name.now) }
+    ensures { result ≡ length (texts_under metadata.now name.now) }
 {
     match metadata.get(name.as_str()) {
         Some(texts) => texts.as_slice().len() as u64,

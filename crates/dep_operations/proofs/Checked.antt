@@ -15,7 +15,7 @@ use Rattle.dep_fields.specs.declared.kind.Kind.{Kind}
 use Rattle.dep_fields.specs.declared.kind.Kind.TheVariants as of
 use Rattle.dep_docs_in.specs.declared.reference.Reference.{Reference}
 use Rattle.dep_decisions.specs.Decisions.{upload_number}
-use Rattle.dep_decisions.specs.Kinds.{kind_of}
+use Rattle.dep_decisions.specs.Kinds.{content_kind}
 use Rattle.dep_decisions.specs.Laws.{refusal_before_room}
 use Rattle.dep_decisions.specs.Rules.{access_refusal, content_by, content_refusal, digest_rule, digests_if_promised, document_refusal, document_rule, fields_refusal, has_content, size_refusal, size_rule}
 use Rattle.dep_decisions.specs.declared.operation.Operation.{Operation}
@@ -56,7 +56,7 @@ document_for config view op r _ e = refl
 -- what has a size that is refused has no document
 pub no_document : (config : Config) (view : View) (op : Operation) (r : Refusal) → size_rule config (in_view view) op ≡ Some r → document_rule config (in_view view) op ≡ None
 unfolding size_rule document_rule
-no_document config view op r e = document_for config view op r (kind_of op) e
+no_document config view op r e = document_for config view op r (content_kind op) e
 
 -- where the other rules on a content pass, it is the rule on the document
 pub document_left : (config : Config) (view : View) (op : Operation) → None ≡ fields_refusal op → None ≡ digest_rule op → None ≡ size_rule config (in_view view) op

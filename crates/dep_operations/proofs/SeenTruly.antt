@@ -23,7 +23,7 @@ use Rattle.dep_docs_in.specs.declared.reference.Reference.{Reference}
 use Rattle.dep_docs_in.specs.declared.reference.Pointed.{Pointed}
 use Rattle.dep_docs_in.specs.declared.reference.Pointed.TheVariants.{Upload as AnUpload, Elsewhere}
 use Rattle.dep_decisions.specs.Decisions.{decision_with, numbers_for, references_in, upload_number}
-use Rattle.dep_decisions.specs.Kinds.{kind_of}
+use Rattle.dep_decisions.specs.Kinds.{content_kind}
 use Rattle.dep_decisions.specs.Laws as laws
 use Rattle.dep_decisions.specs.Laws.{refusal_before_room}
 use Rattle.dep_decisions.specs.LookUps.{Entry, Known, LookUps, assembled_digests, entry_at, has_bag_path, in_state, known_of, repeats, tag_at, without_digests, without_entries}
@@ -33,10 +33,10 @@ use Rattle.dep_decisions.specs.declared.decision.Decision.{Decision}
 use Rattle.dep_operations.specs.Checks.{IsRoomRuling}
 use Rattle.dep_decisions.proofs.BeforeDigests.{access_same}
 use Rattle.dep_decisions.proofs.ByUploads.{first_same}
-use Rattle.dep_operations.specs.Rules.{IsSeen, segments_refusal}
+use Rattle.dep_operations.specs.Rules.{IsSeen, live_segments_refusal}
 use Rattle.dep_operations.specs.Rulings.{HasRoomFor, IsRuling, RefusesUndigested, RefusesUnnamed, RulesBy}
 use Rattle.dep_operations.specs.Seen.{entries_seen, entry_before, entry_seen, in_view, is_timed_out, known_live, live_in, promised_in, row_length, tag_seen, upload_in}
-use Rattle.dep_operations.specs.Views.{file_in, live_upload, object_in, path_in, segment_in, state_undigested, touched_by, true_view, undigested_view, unnamed_view, upload_state, uploads_in, uploads_named}
+use Rattle.dep_operations.specs.Views.{file_in, live_upload, object_in, path_in, segment_in, state_undigested, touched_by, true_view, undigested_view, unnamed_view, upload_state, uploads_looked_up, uploads_named}
 use Rattle.dep_operations.specs.declared.ruling.Ruling.{Ruling}
 use Rattle.dep_operations.specs.declared.ruling.Ruling.TheVariants.{Do, Refuse}
 use Rattle.dep_operations.specs.declared.view.LiveUpload.{LiveUpload}
@@ -135,7 +135,7 @@ module _ (hashed : Bool) (s : State) where
       let same = ap (λ us. each (digests_refusal known_live) (entries_seen refs us)) are ∙ entries_are (digests_refusal known_live) (digests_refusal (known_with hashed)) digests_is refs in
       rw (there, whole, long, same) refl
 
-  references_reported : (view : View) (o : Option (List Reference)) → view.uploads ≡ map (seen (is_some o)) (uploads_in Service o)
+  references_reported : (view : View) (o : Option (List Reference)) → view.uploads ≡ map (seen (is_some o)) (uploads_looked_up Service o)
       → references_refusal (in_view view) o ≡ references_refusal (looked_up hashed s) o
   references_reported view None are = refl
   references_reported view (Some refs) are = entries_reported view refs are
@@ -162,7 +162,7 @@ module _ (hashed : Bool) (config : Config) (s : State) (op : Operation) where
       ap (λ r. unless (is_some (object_in r >>= (λ n. file_in r >>= (λ f. option_map (file_row n f) (file_at s n f))))) NotFound) at
       ∙ ap (λ b. unless b NotFound) (has_row (file_row n f) (file_at s n f))
   presence_is (Upload u) at =
-      ap (λ r. let state = upload_in (map (seen hashed s (is_some (references_in config op))) (uploads_in r (references_in config op))) in missing_refusal (live_in state) (is_timed_out state)) at
+      ap (λ r. let state = upload_in (map (seen hashed s (is_some (references_in config op))) (uploads_looked_up r (references_in config op))) in missing_refusal (live_in state) (is_timed_out state)) at
       ∙ missing_is hashed (is_some (references_in config op)) u (finmap.get s.uploads u) (set.contains s.timed_out u)
   presence_is (BagFile n path) at =
       ap (λ r. unless (option_map_or (λ n. option_map_or (has_bag_path s n) (path_in r) false) (object_in r) false) NotFound) at
@@ -186,21 +186,21 @@ module _ (hashed : Bool) (config : Config) (s : State) (op : Operation) where
   abbrev repeat_in : Resource → Option Kind → Option Bool
   repeat_in resource kind = segment_in resource kind >>= (λ id. finmap.get s.uploads id.upload >>= (λ x. repeats x id.number op.content))
 
-  received_is : (resource : Resource) (k : ℕ) → op.target.resource ≡ resource → kind_of op ≡ Some (of.Segment k)
+  received_is : (resource : Resource) (k : ℕ) → op.target.resource ≡ resource → content_kind op ≡ Some (of.Segment k)
       → received_refusal (in_view view_seen) resource k op.content ≡ received_refusal (looked_up hashed s) resource k op.content
   received_is (Upload u) k at for =
       (λ i. option_and_then (λ (l : LiveUpload). segment_by l.row.count (row_length l.row k) (repeat_in (at i) (for i)) k op.content)
-      (live_in (upload_in (map (seen hashed s (is_some (references_in config op))) (uploads_in (at i) (references_in config op))))))
+      (live_in (upload_in (map (seen hashed s (is_some (references_in config op))) (uploads_looked_up (at i) (references_in config op))))))
       ∙ segment_is hashed (is_some (references_in config op)) u (finmap.get s.uploads u) (set.contains s.timed_out u) k op.content
   received_is _ k at for = refl
 
-  document_for : (o : Option Kind) → kind_of op ≡ o → option_and_then (document_refusal config (in_view view_seen) op) o ≡ option_and_then (document_refusal config (looked_up hashed s) op) o
+  document_for : (o : Option Kind) → content_kind op ≡ o → option_and_then (document_refusal config (in_view view_seen) op) o ≡ option_and_then (document_refusal config (looked_up hashed s) op) o
   document_for (Some of.References) is =
       references_reported hashed s view_seen (references_in config op)
       (ap (map (seen hashed s (is_some (references_in config op)))) (by_reference_elsewhere config op is))
   document_for _ is = refl
 
-  size_for : (o : Option Kind) → kind_of op ≡ o → option_and_then (size_refusal config (in_view view_seen) op) o ≡ option_and_then (size_refusal config (looked_up hashed s) op) o
+  size_for : (o : Option Kind) → content_kind op ≡ o → option_and_then (size_refusal config (in_view view_seen) op) o ≡ option_and_then (size_refusal config (looked_up hashed s) op) o
   size_for (Some (of.Segment k)) is = received_is op.target.resource k refl is
   size_for _ is = refl
 
@@ -215,8 +215,8 @@ module _ (hashed : Bool) (config : Config) (s : State) (op : Operation) where
   content_is : content_refusal config (in_view view_seen) op ≡ content_refusal config (looked_up hashed s) op
   unfolding content_refusal content_by document_rule size_rule
   content_is =
-      let document = document_for (kind_of op) refl in
-      let size = size_for (kind_of op) refl in
+      let document = document_for (content_kind op) refl in
+      let size = size_for (content_kind op) refl in
       (λ i. if has_content op.target.method then first_of (fields_refusal op ∷ digest_rule op ∷ document i ∷ size i ∷ []) else None)
 
   room_is : room_rule config (in_view view_seen) op ≡ room_rule config (looked_up hashed s) op
@@ -250,7 +250,7 @@ no_entries (r ∷ refs) = one_more r.target (no_entries refs)
     one_more Elsewhere later = later
     one_more (AnUpload u) later = later
 
-module _ (config : Config) (s : State) (op : Operation) (is : kind_of op ≡ Some of.References) where
+module _ (config : Config) (s : State) (op : Operation) (is : content_kind op ≡ Some of.References) where
   abbrev head_only : View
   head_only = unnamed_view config s op
 
@@ -295,8 +295,8 @@ module _ (config : Config) (s : State) (op : Operation) (is : kind_of op ≡ Som
   content_head_only : content_refusal config (in_view head_only) op ≡ content_refusal config (without_entries (in_state s)) op
   unfolding content_refusal content_by document_rule size_rule
   content_head_only =
-      let document = document_head_only (kind_of op) is in
-      let size = size_head_only (kind_of op) is in
+      let document = document_head_only (content_kind op) is in
+      let size = size_head_only (content_kind op) is in
       (λ i. if has_content op.target.method then first_of (fields_refusal op ∷ digest_rule op ∷ document i ∷ size i ∷ []) else None)
 
   access_unseen : access_refusal config (without_entries (in_state s)) op ≡ access_refusal config (in_state s) op
@@ -328,7 +328,7 @@ refuses_unnamed config view op refused is s referred truly =
 pub missing_seen : (by_reference : Bool) (s : State) (u : ℕ) → let state = state_undigested (upload_state by_reference s u) in missing_refusal (live_in state) (is_timed_out state) ≡ upload_refusal (in_state s) u
 missing_seen by s u = missing_is false by u (finmap.get s.uploads u) (set.contains s.timed_out u)
 
-pub segments_seen : (s : State) (u : ℕ) → segments_refusal (state_undigested (upload_state true s u)) ≡ laws.segments_refusal (in_state s) u
+pub segments_seen : (s : State) (u : ℕ) → live_segments_refusal (state_undigested (upload_state true s u)) ≡ laws.segments_refusal (in_state s) u
 segments_seen s u = ap (λ b. unless b BadRequest) (passes_is (λ l. l.is_whole) false true u (finmap.get s.uploads u) (set.contains s.timed_out u))
 
 -- ---- rulings by what is seen

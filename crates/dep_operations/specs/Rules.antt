@@ -25,8 +25,8 @@ rule_of HasLength e = length_refusal known_live e
 rule_of HasDigests e = digests_refusal known_live e
 
 -- a segment of the upload is missing, where it is there
-abbrev pub segments_refusal : UploadState → Option Refusal
-segments_refusal state = unless (option_map_or known_live.is_whole (live_in state) true) BadRequest
+abbrev pub live_segments_refusal : UploadState → Option Refusal
+live_segments_refusal state = unless (option_map_or known_live.is_whole (live_in state) true) BadRequest
 
 abbrev pub points_elsewhere : Reference → Bool
 points_elsewhere r = not (is_some (upload_number r.target))

@@ -7,7 +7,7 @@ use Rattle.dep_types.specs.declared.counters.Counters.{Counters}
 use Rattle.dep_types.specs.declared.refusal.Refusal.{Refusal}
 use Rattle.dep_fields.specs.declared.kind.Kind.TheVariants.{References}
 use Rattle.dep_decisions.specs.Decisions.{decision, numbers_for}
-use Rattle.dep_decisions.specs.Kinds.{kind_of}
+use Rattle.dep_decisions.specs.Kinds.{content_kind}
 use Rattle.dep_decisions.specs.Laws.{refusal_before_room}
 use Rattle.dep_decisions.specs.LookUps.{in_state, without_digests, without_entries}
 use Rattle.dep_decisions.specs.Rules.{refusal}
@@ -36,7 +36,7 @@ RefusesUndigested config view op refused = (s : State) → view ≡ undigested_v
 -- the same of a document of references in each state that the view shows truly but for the uploads that they name,
 -- of which it shows none
 abbrev pub RefusesUnnamed : Config → View → Operation → Option Refusal → Type 0
-RefusesUnnamed config view op refused = (s : State) → kind_of op ≡ Some References
+RefusesUnnamed config view op refused = (s : State) → content_kind op ≡ Some References
     → view ≡ unnamed_view config s op
     → refused ≡ refusal_before_room config (without_entries (in_state s)) op
 

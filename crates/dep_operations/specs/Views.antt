@@ -19,7 +19,7 @@ use Rattle.dep_fields.specs.declared.kind.Kind.{Kind}
 use Rattle.dep_fields.specs.declared.kind.Kind.TheVariants as of
 use Rattle.dep_docs_in.specs.declared.reference.Reference.{Reference}
 use Rattle.dep_decisions.specs.Decisions.{references_in, upload_number}
-use Rattle.dep_decisions.specs.Kinds.{kind_of}
+use Rattle.dep_decisions.specs.Kinds.{content_kind}
 use Rattle.dep_decisions.specs.LookUps.{assembled_digests, has_bag_path, repeats}
 use Rattle.dep_decisions.specs.declared.operation.Operation.{Operation}
 use Rattle.dep_operations.specs.declared.view.SegmentId.{SegmentId}
@@ -58,9 +58,9 @@ abbrev pub referred_uploads : Option (List Reference) → List ℕ
 referred_uploads None = []
 referred_uploads (Some refs) = uploads_named refs
 
-abbrev pub uploads_in : Resource → Option (List Reference) → List ℕ
-uploads_in (Upload u) refs = u ∷ []
-uploads_in _ refs = referred_uploads refs
+abbrev pub uploads_looked_up : Resource → Option (List Reference) → List ℕ
+uploads_looked_up (Upload u) refs = u ∷ []
+uploads_looked_up _ refs = referred_uploads refs
 
 -- the segment of a Temporary-URL's upload that a content of this kind is sent as
 abbrev pub segment_in : Resource → Option Kind → Option SegmentId
@@ -73,14 +73,14 @@ touched_with resource kind refs = record {
   object = object_in resource;
   file = file_in resource;
   path = path_in resource;
-  uploads = uploads_in resource refs;
+  uploads = uploads_looked_up resource refs;
   segment = segment_in resource kind;
   references = refs;
 }
 
 -- what of the archive has to be looked up before a request can be ruled
 abbrev pub touched_by : Config → Operation → Touched
-touched_by config op = touched_with op.target.resource (kind_of op) (references_in config op)
+touched_by config op = touched_with op.target.resource (content_kind op) (references_in config op)
 
 -- ---- the view
 

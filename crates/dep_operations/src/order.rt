@@ -3,7 +3,7 @@ ghost use Rattle.std.specs.Prelude.{◌≡◌, IfOk, IfSome, option_map};
 ghost use Rattle.dep_types.specs.declared.config.Config.{Config};
 ghost use Rattle.dep_fixity.specs.Fixity.{digests_of};
 ghost use Rattle.dep_decisions.specs.Asked.{IsRead};
-ghost use Rattle.dep_decisions.specs.Kinds.{kind_of};
+ghost use Rattle.dep_decisions.specs.Kinds.{content_kind};
 ghost use Rattle.dep_decisions.specs.Purposes.{kind_for};
 ghost use Rattle.dep_decisions.specs.Laws.{refusal_before_room};
 ghost use Rattle.dep_decisions.specs.Rules.{access_refusal, content_by, document_rule, has_content, reads_alone};
@@ -35,7 +35,7 @@ pub fn decide(
     operation: &Operation<'_>,
     purpose: Option<Purpose<'_>>,
 ) -> Result<Ruling, AllocError>
-    requires { option_map kind_for purpose ≡ kind_of operation.now }
+    requires { option_map kind_for purpose ≡ content_kind operation.now }
     ensures ruling { IfOk result (RulesBy config.now view.now operation.now) }
     // What is let through can be given its numbers.
     ensures room { IfOk result (HasRoomFor view.now.next) }
@@ -59,7 +59,7 @@ pub fn refusal_before_digests(
     operation: &Operation<'_>,
     purpose: Option<Purpose<'_>>,
 ) -> Result<Option<Refusal>, AllocError>
-    requires { option_map kind_for purpose ≡ kind_of operation.now }
+    requires { option_map kind_for purpose ≡ content_kind operation.now }
     ensures undigested { IfOk result (RefusesUndigested config.now view.now operation.now) }
     ensures unnamed { IfOk result (RefusesUnnamed config.now view.now operation.now) }
 {
@@ -88,7 +88,7 @@ fn check(
     operation: &Operation<'_>,
     purpose: Option<Purpose<'_>>,
 ) -> Result<Checked, AllocError>
-    requires { option_map kind_for purpose ≡ kind_of operation.now }
+    requires { option_map kind_for purpose ≡ content_kind operation.now }
     ensures { IfOk result
         (IsChecked (refusal_before_room config.now (in_view view.now) operation.now) operation.now) }
 {
@@ -150,7 +150,7 @@ fn check_content(
     purpose: Option<Purpose<'_>>,
     alloc: Global,
 ) -> Result<Checked, AllocError>
-    requires { option_map kind_for purpose ≡ kind_of operation.now }
+    requires { option_map kind_for purpose ≡ content_kind operation.now }
     ensures { IfOk result
         (IsChecked (content_by config.now (in_view view.now) operation.now) operation.now) }
 {
@@ -178,7 +178,7 @@ fn check_document(
     purpose: Option<Purpose<'_>>,
     digests: Option<Digests>,
 ) -> Result<Checked, AllocError>
-    requires purpose { option_map kind_for purpose ≡ kind_of operation.now }
+    requires purpose { option_map kind_for purpose ≡ content_kind operation.now }
     requires digests { IfSome digests (λ d. d ≡ digests_of operation.now.content) }
     ensures { (config : Config) → IfOk result
         (IsChecked (document_rule config (in_view view.now) operation.now) operation.now) }
@@ -216,7 +216,7 @@ fn rule_by_room(
     purpose: Option<Purpose<'_>>,
     read: ReadContent,
 ) -> Result<Ruling, AllocError>
-    requires purpose { option_map kind_for purpose ≡ kind_of operation.now }
+    requires purpose { option_map kind_for purpose ≡ content_kind operation.now }
     requires read { IsRead operation.now read }
     ensures { (config : Config) → IfOk result (IsRoomRuling config view.now operation.now) }
 {

@@ -2,7 +2,7 @@
 ghost use Rattle.std.specs.Prelude.{◌≡◌, IfOk, Some};
 ghost use Rattle.std.specs.List.{list_any};
 ghost use Rattle.dep_decisions.specs.Rules.{digests_refusal, each, entries_refusal, length_refusal, missing_refusal, references_refusal, occurs_twice};
-ghost use Rattle.dep_operations.specs.Rules.{is_other_packaging, points_elsewhere, rule_of, segments_refusal};
+ghost use Rattle.dep_operations.specs.Rules.{is_other_packaging, points_elsewhere, rule_of, live_segments_refusal};
 ghost use Rattle.dep_operations.specs.Seen.{entries_seen, entry_seen, in_view, is_timed_out, known_live, live_in, promised_in};
 ghost use Rattle.dep_operations.specs.Views.{uploads_named};
 
@@ -163,7 +163,7 @@ pub fn state_rule(state: &UploadState) -> Option<Refusal>
 
 /// What a reference to an upload is refused for that is there, and lacks a segment.
 pub fn segments_rule(state: &UploadState) -> Option<Refusal>
-    ensures { result ≡ segments_refusal state.now }
+    ensures { result ≡ live_segments_refusal state.now }
 {
     match state {
         UploadState::Live(upload) if !upload.is_whole => Some(Refusal::BadRequest),

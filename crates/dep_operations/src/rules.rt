@@ -2,7 +2,7 @@
 ghost use Rattle.std.specs.Prelude.{◌≡◌, option_map};
 ghost use Rattle.dep_types.specs.Uploads.{sizes_agree};
 ghost use Rattle.dep_types.specs.declared.refusal.Refusal.TheVariants as why;
-ghost use Rattle.dep_decisions.specs.Kinds.{kind_of};
+ghost use Rattle.dep_decisions.specs.Kinds.{content_kind};
 ghost use Rattle.dep_decisions.specs.Purposes.{kind_for};
 ghost use Rattle.dep_decisions.specs.Rules.{behalf_rule, missing_refusal, opening_refusal, presence_refusal, received_refusal, repeat_refusal, segment_by, size_rule, tag_refusal, unless};
 ghost use Rattle.dep_operations.specs.Seen.{in_view, is_timed_out, live_in, row_length, tag_seen, upload_in};
@@ -100,7 +100,7 @@ pub(crate) fn size_rule(
     operation: &Operation<'_>,
     purpose: Option<Purpose<'_>>,
 ) -> Option<Refusal>
-    requires { option_map kind_for purpose ≡ kind_of operation.now }
+    requires { option_map kind_for purpose ≡ content_kind operation.now }
     ensures { result ≡ size_rule config.now (in_view view.now) operation.now }
 {
     match purpose {

@@ -2,9 +2,9 @@
 ghost use Rattle.std.specs.Prelude.{◌≡◌, IfOk, Some, None, option_map};
 ghost use Rattle.std.specs.Option.{option_copied};
 ghost use Rattle.dep_decisions.specs.Decisions.{references_in};
-ghost use Rattle.dep_decisions.specs.Kinds.{kind_of};
+ghost use Rattle.dep_decisions.specs.Kinds.{content_kind};
 ghost use Rattle.dep_decisions.specs.Purposes.{kind_for};
-ghost use Rattle.dep_operations.specs.Views.{file_in, object_in, path_in, segment_in, touched_by, uploads_in, uploads_named};
+ghost use Rattle.dep_operations.specs.Views.{file_in, object_in, path_in, segment_in, touched_by, uploads_looked_up, uploads_named};
 
 use crate::view::{SegmentId, Touched};
 use dep_decisions::{Operation, Purpose};
@@ -20,7 +20,7 @@ pub fn touches(
     operation: &Operation<'_>,
     purpose: Option<Purpose<'_>>,
 ) -> Result<Touched, AllocError>
-    requires { option_map kind_for purpose ≡ kind_of operation.now }
+    requires { option_map kind_for purpose ≡ content_kind operation.now }
     ensures ok { IfOk result (λ touched. touched ≡ touched_by config.now operation.now) }
 {
     let resource = &operation.target.resource;
@@ -45,7 +45,7 @@ fn references_for(
     operation: &Operation<'_>,
     purpose: Option<Purpose<'_>>,
 ) -> Result<Option<List<Reference>>, AllocError>
-    requires { option_map kind_for purpose ≡ kind_of operation.now }
+    requires { option_map kind_for purpose ≡ content_kind operation.now }
     ensures { IfOk result (λ references. references ≡ references_in config.now operation.now) }
 {
     let Some(Purpose::References) = purpose else {
@@ -110,7 +110,7 @@ fn uploads_in(
     references: Option<&List<Reference>>,
 ) -> Result<List<u64>, AllocError>
     ensures { IfOk result
-        (λ uploads. uploads ≡ uploads_in resource.now (option_copied references.entry)) }
+        (λ uploads. uploads ≡ uploads_looked_up resource.now (option_copied references.entry)) }
 {
     match (resource, references) {
         (Resource::Upload(upload), _) => Ok(List::from_vec(vec![in alloc; *upload]?)),

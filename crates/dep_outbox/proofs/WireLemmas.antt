@@ -3,10 +3,10 @@ use Rattle.std.proofs.Common.{◌≡◌, ℕ, suc, ◌+◌, List, [], ◌∷◌,
 use Rattle.std.proofs.lemmas.List.{append-nil, take-append-drop, drop-drop, drop_all}
 use Rattle.std.specs.Io.KnownBytes.{Appends, Consumes, Keeps, IsAtEnd, prepend_known}
 use Rattle.dep_types.specs.Writing.{TakesPart}
-use Rattle.dep_outbox.specs.Wires.{joined, AreCounted}
+use Rattle.dep_outbox.specs.Wires.{joined_bytes, AreCounted}
 
 -- more is owed
-pub appends_behind : (a h k : Option (List ℕ)) (bs : List ℕ) → Appends h k bs → Appends (joined a h) (joined a k) bs
+pub appends_behind : (a h k : Option (List ℕ)) (bs : List ℕ) → Appends h k bs → Appends (joined_bytes a h) (joined_bytes a k) bs
 appends_behind None h k bs p = tt
 appends_behind (Some x) None k bs p = tt
 appends_behind (Some x) (Some y) None bs p = absurd p
@@ -33,8 +33,8 @@ appends_after (Some x) (Some y) None bs p q = absurd q
 appends_after (Some x) (Some y) (Some z) bs p q = q ∙ ap (λ l. l ++ bs) p
 
 -- the same of a part of them
-pub part_after : (t a h k : Option (List ℕ)) (bs : List ℕ) → Keeps t (joined a h) → TakesPart h k bs → TakesPart t (joined a k) bs
-part_after t a h k bs p (x, short, q) = (x, short, appends_after t (joined a h) (joined a k) x p (appends_behind a h k x q))
+pub part_after : (t a h k : Option (List ℕ)) (bs : List ℕ) → Keeps t (joined_bytes a h) → TakesPart h k bs → TakesPart t (joined_bytes a k) bs
+part_after t a h k bs p (x, short, q) = (x, short, appends_after t (joined_bytes a h) (joined_bytes a k) x p (appends_behind a h k x q))
 
 -- what holds anyway holds at an error
 pub at_any_error : {A E P : Type 0} (r : Result A E) → P → OnErr r P
@@ -53,7 +53,7 @@ none_counted (Some []) n counts none = refl
 none_counted (Some (x ∷ xs)) n counts none = absurd (let bad : suc (length xs) ≡ 0 = counts ∙ none in cc)
 
 -- a wire over a socket that took nothing has taken nothing, where none wait
-pub nothing_reported : (a h : Option (List ℕ)) → IsAtEnd a → IsAtEnd h → IsAtEnd (joined a h)
+pub nothing_reported : (a h : Option (List ℕ)) → IsAtEnd a → IsAtEnd h → IsAtEnd (joined_bytes a h)
 nothing_reported None h p q = tt
 nothing_reported (Some x) None p q = tt
 nothing_reported (Some x) (Some y) p q = rw p q

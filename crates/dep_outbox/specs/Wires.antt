@@ -11,9 +11,9 @@ use Rattle.dep_outbox.specs.declared.wire.Flushed.TheVariants as flush
 use Rattle.dep_outbox.specs.declared.wire.Wire.{Wire}
 
 -- the first bytes and then the others, where both are known
-abbrev pub joined : Option (List ℕ) → Option (List ℕ) → Option (List ℕ)
-joined None behind = None
-joined (Some xs) behind = prepend_known xs behind
+abbrev pub joined_bytes : Option (List ℕ) → Option (List ℕ) → Option (List ℕ)
+joined_bytes None behind = None
+joined_bytes (Some xs) behind = prepend_known xs behind
 
 -- so many bytes are known, where they are
 abbrev pub AreCounted : Option (List ℕ) → ℕ → Type 0
@@ -44,7 +44,7 @@ module _ {K S : Type 0} where
 
   -- the bytes that the wire took: those that the socket took, and those that are owed behind them
   abbrev pub reported : (K → Option (List ℕ)) → (S → Option (List ℕ)) → Wire K S → Option (List ℕ)
-  reported taken held w = joined (taken w.sink) (owed held w)
+  reported taken held w = joined_bytes (taken w.sink) (owed held w)
 
 -- what is no longer owed was delivered, and is counted as far as 64 bits hold it
 abbrev pub CountsSent : (delivered owed after left : ℕ) → Type 0

@@ -6,8 +6,8 @@ use Rattle.std.specs.Char.{is_ascii_hexdigit}
 use Rattle.std.specs.List.{list_all, range_with_len}
 use Rattle.std.specs.Str.{str_eq_ignore_ascii_case}
 use Rattle.percent_encoding.specs.Percent.{percent_decode}
-use Rattle.dep_params.specs.Grammar.{DispositionValue, value_of}
-use Rattle.dep_params.specs.Names.{HasTwoDigitsAfter, HasWholeEscapes, IsExtended, IsReported, IsReportedName, IsFileName}
+use Rattle.dep_params.specs.Grammar.{DispositionValue, parameter_value}
+use Rattle.dep_params.specs.Names.{HasTwoDigitsAfter, HasWholeEscapes, IsExtended, IsPreferredName, IsReportedName, IsFileName}
 use Rattle.dep_types.specs.Names.{if_passes, is_good_name}
 use Rattle.dep_params.specs.Reading.{cut_at_apostrophe}
 use Rattle.dep_params.specs.Reported.{has_two_digits_after, is_whole_at, has_whole_escapes, name_escaped, name_behind, extended_name, reported_name, file_name_of}
@@ -103,12 +103,12 @@ cut-sound text name (Some x) first h = behind-sound text name x.0 x.1 (cut_at_ap
 
 -- ---- file names
 
-reported-sound : (star plain : Option (List ℕ)) (name : List ℕ) → reported_name star plain ≡ Some name → IsReported star plain name
+reported-sound : (star plain : Option (List ℕ)) (name : List ℕ) → reported_name star plain ≡ Some name → IsPreferredName star plain name
 reported-sound (Some text) plain name h = cut-sound text name (cut_at_apostrophe text) refl h
 reported-sound None (Some plain) name h = cc h
 reported-sound None None name h = cc h
 
-reported-complete : (star plain : Option (List ℕ)) (name : List ℕ) → IsReported star plain name → reported_name star plain ≡ Some name
+reported-complete : (star plain : Option (List ℕ)) (name : List ℕ) → IsPreferredName star plain name → reported_name star plain ≡ Some name
 reported-complete (Some text) plain name is = extended-complete text name is
 reported-complete None (Some plain) name is = ap Some (sym is)
 reported-complete None None name is = absurd is
@@ -116,28 +116,28 @@ reported-complete None None name is = absurd is
 -- so the parameters give one name at most
 pub same_name : (reading : DispositionValue) (a b : List ℕ) → IsReportedName reading a → IsReportedName reading b → a ≡ b
 same_name reading a b is has =
-    let star = value_of (codes "filename*") reading in
-    let plain = value_of (codes "filename") reading in
+    let star = parameter_value (codes "filename*") reading in
+    let plain = parameter_value (codes "filename") reading in
     cc (reported-complete star plain a is, reported-complete star plain b has)
 
 good-sound : (star plain : Option (List ℕ)) (name : List ℕ) (o : Option (List ℕ)) → reported_name star plain ≡ o → option_and_then (if_passes is_good_name) o ≡ Some name
-    → IsReported star plain name × (is_good_name name ≡ true)
+    → IsPreferredName star plain name × (is_good_name name ≡ true)
 good-sound star plain name None reported h = cc h
 good-sound star plain name (Some other) reported h = elim (chosen (is_good_name other) _ _ (Some name) h) [
   | inl good ↦
       let is : other ≡ name = cc (good.1) in
-      (subst (IsReported star plain) is (reported-sound star plain other reported), subst (λ (n : List ℕ). is_good_name n ≡ true) is good.0)
+      (subst (IsPreferredName star plain) is (reported-sound star plain other reported), subst (λ (n : List ℕ). is_good_name n ≡ true) is good.0)
   | inr bad ↦ cc (bad.1)
 ]
 
 pub file_name-sound : (reading : DispositionValue) (name : List ℕ) → file_name_of reading ≡ Some name → IsFileName reading name
 unfolding file_name_of
 file_name-sound reading name h =
-    let both = good-sound (value_of (codes "filename*") reading) (value_of (codes "filename") reading) name _ refl h in
+    let both = good-sound (parameter_value (codes "filename*") reading) (parameter_value (codes "filename") reading) name _ refl h in
     record { reported = both.0; good = both.1 }
 
 pub file_name-complete : (reading : DispositionValue) (name : List ℕ) → IsFileName reading name → file_name_of reading ≡ Some name
 unfolding file_name_of
 file_name-complete reading name is =
-    ap (option_and_then (if_passes is_good_name)) (reported-complete (value_of (codes "filename*") reading) (value_of (codes "filename") reading) name is.reported)
+    ap (option_and_then (if_passes is_good_name)) (reported-complete (parameter_value (codes "filename*") reading) (parameter_value (codes "filename") reading) name is.reported)
     ∙ rw is.good refl

@@ -106,6 +106,6 @@ abbrev pub HasDistinctNames : DispositionValue → Type 0
 HasDistinctNames reading = IsDistinct bytes_eq (names_of reading)
 
 -- the value of the parameter with this name, in any letter case
-abbrev pub value_of : List ℕ → DispositionValue → Option (List ℕ)
-value_of name reading =
+abbrev pub parameter_value : List ℕ → DispositionValue → Option (List ℕ)
+parameter_value name reading =
     option_map (λ p. p.value) (find (λ p. str_eq_ignore_ascii_case p.name name) reading.parameters)

@@ -5,7 +5,7 @@ use Rattle.std.specs.Char.{is_ascii_hexdigit}
 use Rattle.std.specs.Str.{str_eq_ignore_ascii_case}
 use Rattle.percent_encoding.specs.Percent.{percent_decode}
 use Rattle.dep_types.specs.Names.{is_good_name}
-use Rattle.dep_params.specs.Grammar.{DispositionValue, value_of}
+use Rattle.dep_params.specs.Grammar.{DispositionValue, parameter_value}
 use Rattle.dep_params.specs.declared.disposition.ParamFault.{ParamFault}
 use Rattle.dep_params.specs.declared.disposition.ParamFault.TheVariants.{NoName, Memory}
 
@@ -36,15 +36,15 @@ pub record IsExtended (text name : List ℕ) : Type 0 where
   pub reported : name ≡ percent_decode escaped
 
 -- an extended name goes before a plain one
-abbrev pub IsReported : Option (List ℕ) → Option (List ℕ) → List ℕ → Type 0
-IsReported (Some text) plain name = IsExtended text name
-IsReported None (Some plain) name = name ≡ plain
-IsReported None None name = ⊥
+abbrev pub IsPreferredName : Option (List ℕ) → Option (List ℕ) → List ℕ → Type 0
+IsPreferredName (Some text) plain name = IsExtended text name
+IsPreferredName None (Some plain) name = name ≡ plain
+IsPreferredName None None name = ⊥
 
 -- its parameters give this name, whether it may stand or not
 abbrev pub IsReportedName : DispositionValue → List ℕ → Type 0
 IsReportedName reading name =
-    IsReported (value_of (codes "filename*") reading) (value_of (codes "filename") reading) name
+    IsPreferredName (parameter_value (codes "filename*") reading) (parameter_value (codes "filename") reading) name
 
 -- the disposition gives this file name
 pub record IsFileName (reading : DispositionValue) (name : List ℕ) : Type 0 where

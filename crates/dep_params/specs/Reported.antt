@@ -5,7 +5,7 @@ use Rattle.std.specs.Char.{is_ascii_hexdigit}
 use Rattle.std.specs.Str.{str_to_ascii_lowercase, str_eq_ignore_ascii_case}
 use Rattle.percent_encoding.specs.Percent.{percent_decode}
 use Rattle.dep_types.specs.Names.{if_passes, is_good_name}
-use Rattle.dep_params.specs.Grammar.{NamedValue, DispositionValue, value_of}
+use Rattle.dep_params.specs.Grammar.{NamedValue, DispositionValue, parameter_value}
 use Rattle.dep_params.specs.Reading.{cut_at_apostrophe, parameter_read, semicolon_read, token_len}
 
 -- a parameter before those that follow it
@@ -83,4 +83,4 @@ reported_name None plain = plain
 unfoldable pub file_name_of : DispositionValue → Option (List ℕ)
 file_name_of reading =
     option_and_then (if_passes is_good_name)
-    (reported_name (value_of (codes "filename*") reading) (value_of (codes "filename") reading))
+    (reported_name (parameter_value (codes "filename*") reading) (parameter_value (codes "filename") reading))

@@ -1,7 +1,7 @@
 //! What a Content-Disposition field says.
 ghost use Rattle.std.specs.Prelude.{◌≡◌};
 ghost use Rattle.std.specs.Str.{str_eq_ignore_ascii_case};
-ghost use Rattle.dep_params.specs.Faults.{fault_number};
+ghost use Rattle.dep_params.specs.Faults.{parameter_fault_number};
 
 use std::alloc::{AllocError, AllocFailed};
 use std::error::Error;
@@ -24,7 +24,7 @@ pub enum ParamFault {
 impl ParamFault {
     /// The number of the fault: 1 to 4.
     pub fn number(self) -> u8
-        ensures { result ≡ fault_number self }
+        ensures { result ≡ parameter_fault_number self }
     {
         match self {
             ParamFault::Malformed => 1,
@@ -73,7 +73,7 @@ impl Model for Disposition {
 
 impl Disposition {
     ghost use Rattle.std.specs.Option.{option_copied};
-    ghost use Rattle.dep_params.specs.Grammar.{DispositionValue, value_of};
+    ghost use Rattle.dep_params.specs.Grammar.{DispositionValue, parameter_value};
     ghost use Rattle.dep_params.specs.Stored.{views};
 
     pub(crate) fn of(form: Vec<u8>, parameters: Vec<Parameter>) -> Disposition
@@ -93,7 +93,7 @@ impl Disposition {
     /// The value of the parameter with this name, in any letter case. It is without quotation marks and escapes; a
     /// `filename*` is as it was written. It takes no memory.
     pub fn parameter(&self, name: &[u8]) -> Option<&[u8]>
-        ensures { option_copied result ≡ value_of name.now self.now }
+        ensures { option_copied result ≡ parameter_value name.now self.now }
     {
         for parameter in &self.parameters {
             if has_name(parameter, name) {

@@ -2,7 +2,7 @@
 ghost use Rattle.std.specs.Prelude.{◌≡◌, ◌==◌, ◌<◌, ◌↔◌, ◌⊎◌, ℕ, List, codes, IsTrue, IfOk, IfErr, MatchOption, MatchResult, length, position, slice_index, string_bytes};
 ghost use Rattle.percent_encoding.specs.Percent as spec;
 ghost use Rattle.std.specs.Str.{str_eq_ignore_ascii_case};
-ghost use Rattle.dep_params.specs.Grammar.{value_of};
+ghost use Rattle.dep_params.specs.Grammar.{parameter_value};
 ghost use Rattle.dep_params.specs.Failing.{FailsToName};
 ghost use Rattle.dep_params.specs.Names.{HasTwoDigitsAfter, HasWholeEscapes, IsExtended, IsFileName, IsNameFault, IsReportedName};
 ghost use Rattle.dep_params.specs.Reading.{cut_at_apostrophe};

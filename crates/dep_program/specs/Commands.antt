@@ -32,8 +32,8 @@ from_one (Some (suc n)) = Some (suc n)
 abbrev pub port_of : List ℕ → Option ℕ
 port_of word = from_one (value_of (decimal_number word 65535))
 
-abbrev pub count_of : List ℕ → Option ℕ
-count_of word = from_one (value_of (decimal_number word 1000000))
+abbrev pub count_in : List ℕ → Option ℕ
+count_in word = from_one (value_of (decimal_number word 1000000))
 
 -- what the words after each name ask for, if they do
 abbrev pub replay_of : List (List ℕ) → Option Asked
@@ -45,7 +45,7 @@ serve_at None file count = None
 serve_at (Some port) file count = option_map (λ c. serve port file c) count
 
 abbrev pub serve_of : List (List ℕ) → Option Asked
-serve_of (port ∷ file ∷ count ∷ []) = serve_at (port_of port) file (count_of count)
+serve_of (port ∷ file ∷ count ∷ []) = serve_at (port_of port) file (count_in count)
 serve_of _ = None
 
 abbrev pub export_of : List (List ℕ) → Option Asked
@@ -56,8 +56,8 @@ abbrev pub audit_of : List (List ℕ) → Option Asked
 audit_of (file ∷ []) = Some (audit file)
 audit_of _ = None
 
-abbrev pub named : (name : List ℕ) → List (List ℕ) → Option Asked
-named name words =
+abbrev pub command_named : (name : List ℕ) → List (List ℕ) → Option Asked
+command_named name words =
     if bytes_eq name (codes "replay") then replay_of words
     else if bytes_eq name (codes "serve") then serve_of words
     else if bytes_eq name (codes "export") then export_of words
@@ -67,7 +67,7 @@ named name words =
 -- what the words ask for, if they do
 abbrev pub asked_of : List (List ℕ) → Option Asked
 asked_of [] = None
-asked_of (name ∷ words) = named name words
+asked_of (name ∷ words) = command_named name words
 
 -- what a job over the store in a file is
 abbrev pub asked_over : (file : List ℕ) → Job → Asked

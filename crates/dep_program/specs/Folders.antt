@@ -6,8 +6,8 @@ use Rattle.dep_program.specs.declared.outcome.Outcome.{Outcome}
 use Rattle.dep_program.specs.declared.outcome.Outcome.TheVariants.{StoreFault, TransferFault}
 
 -- the path of a file or a folder inside a folder
-abbrev pub path_in : (folder path : List ℕ) → List ℕ
-path_in folder path = folder ++ codes "/" ++ path
+abbrev pub path_inside : (folder path : List ℕ) → List ℕ
+path_inside folder path = folder ++ codes "/" ++ path
 
 -- how an export ends where its folder can't be made
 abbrev pub without_folder : ErrorKind → Outcome

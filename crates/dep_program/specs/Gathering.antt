@@ -13,5 +13,5 @@ module _ {W : Type 0} where
   given contents outlet = contents (writer_inner outlet.writer)
 
   -- the bytes that it took: those that its writer has, and those that it holds back behind them
-  abbrev pub reported : (W → Option (List ℕ)) → Gathered W → Option (List ℕ)
-  reported contents outlet = writer_contents contents outlet.writer
+  abbrev pub gathered_bytes : (W → Option (List ℕ)) → Gathered W → Option (List ℕ)
+  gathered_bytes contents outlet = writer_contents contents outlet.writer

@@ -15,13 +15,13 @@ status_of TransferFault = 3
 status_of Damaged = 4
 
 -- the line on standard error, where there is one
-abbrev pub line_of : Outcome → Option (List ℕ)
-line_of Done = None
-line_of Usage = Some (codes "usage: swordd replay MOMENT BASE | serve PORT DB COUNT | export DB ID DIR | audit DB")
-line_of NoSuchObject = Some (codes "swordd: no such object")
-line_of StoreFault = Some (codes "swordd: store fault")
-line_of TransferFault = Some (codes "swordd: input or output fault")
-line_of Damaged = None
+abbrev pub outcome_line : Outcome → Option (List ℕ)
+outcome_line Done = None
+outcome_line Usage = Some (codes "usage: swordd replay MOMENT BASE | serve PORT DB COUNT | export DB ID DIR | audit DB")
+outcome_line NoSuchObject = Some (codes "swordd: no such object")
+outcome_line StoreFault = Some (codes "swordd: store fault")
+outcome_line TransferFault = Some (codes "swordd: input or output fault")
+outcome_line Damaged = None
 
 -- what the program says of a connection
 abbrev pub outcome_of : Served → Outcome

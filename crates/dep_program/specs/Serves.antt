@@ -4,7 +4,7 @@ use Rattle.std.specs.List.{flat_map}
 use Rattle.dep_exchange.specs.Records.{Record}
 use Rattle.dep_hub.specs.Representing.{ServesAs}
 use Rattle.dep_connection.specs.Turns.{Turn, records_of, ArePieces}
-use Rattle.dep_connection.specs.Conversation.{Outflow, Wire, session, AddsAll, Clocks, ConversesOver}
+use Rattle.dep_connection.specs.Conversation.{Outflow, Wire, session, AddsRecords, Clocks, ConversesOver}
 use Rattle.dep_types.specs.Conditions.{Condition}
 use Rattle.dep_types.specs.declared.inlet.LastRead.TheVariants.{NoneYet}
 use Rattle.dep_hub.specs.declared.hub.Hub.{Hub}
@@ -61,7 +61,7 @@ module _ {A : Type 0} (condition : A → Condition) where
   -- them, one connection after another.
   pub record ServesThese (old new : Hub A) (talks : List Conversation) : Type 0 where
     pub sizes : All (λ t. ArePieces t.turns) talks
-    pub adds : AddsAll condition old new (all_records_of talks)
+    pub adds : AddsRecords condition old new (all_records_of talks)
 
   -- connections are served, each piece at the clock's answer
   abbrev pub Serves : {C : Type 0} → (ticks : C → ℕ → C → Type 0) → (clock : C)

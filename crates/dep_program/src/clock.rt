@@ -1,7 +1,7 @@
 //! The machine's clock.
 ghost use Rattle.std.specs.Prelude.{◌≡◌, min};
 ghost use Rattle.dep_types.specs.Limits.{greatest_moment};
-ghost use Rattle.dep_program.specs.Clock.{seconds_of};
+ghost use Rattle.dep_program.specs.Clock.{whole_seconds};
 
 use dep_moment::Moment;
 use std::io;
@@ -9,7 +9,7 @@ use std::time::{Clock, Instant, SystemTime, UNIX_EPOCH};
 
 /// The moment of a reading of the clock, in whole seconds since 1970; the first one where the clock can't be read.
 pub fn moment_of(reading: io::Result<SystemTime>) -> Moment
-    ensures { result ≡ min (seconds_of reading) greatest_moment }
+    ensures { result ≡ min (whole_seconds reading) greatest_moment }
 {
     match reading {
         Ok(time) => match time.duration_since(UNIX_EPOCH) {

@@ -1,6 +1,6 @@
 //! A new folder of the file system, for an export.
 ghost use Rattle.std.specs.Prelude.{◌≡◌, IfOk, OnOk, IsSome, None, string_bytes};
-ghost use Rattle.dep_program.specs.Folders.{path_in, without_folder};
+ghost use Rattle.dep_program.specs.Folders.{path_inside, without_folder};
 
 use crate::outcome::Outcome;
 use crate::progress::ProgressLine;
@@ -51,7 +51,7 @@ impl<'a> Folder<'a> {
     /// Makes a folder in it, with those above.
     pub fn make_folder(&mut self, path: &str) -> io::Result<()>
         ensures made { OnOk result
-            (string_bytes self.new.inside ≡ path_in self.old.path.now path.now) }
+            (string_bytes self.new.inside ≡ path_inside self.old.path.now path.now) }
         ensures path { self.new.path ≡ self.old.path }
         ensures file { self.new.file ≡ self.old.file }
     {
@@ -62,7 +62,7 @@ impl<'a> Folder<'a> {
     /// Begins a file in it, which must not be there, and makes the folders that its path names.
     pub fn begin_file(&mut self, path: &str) -> io::Result<()>
         ensures made { OnOk result
-            (string_bytes self.new.inside ≡ path_in self.old.path.now path.now) }
+            (string_bytes self.new.inside ≡ path_inside self.old.path.now path.now) }
         ensures path { self.new.path ≡ self.old.path }
         ensures begun { OnOk result (IsSome self.new.file.begun) }
     {
@@ -102,7 +102,7 @@ impl LastFile<'_> {
 
 // Puts the path of a file or a folder in this folder into the room for it.
 fn put_path(inside: &mut String, folder: &str, path: &str) -> Result<(), AllocError>
-    ensures { OnOk result (string_bytes inside.new ≡ path_in folder.now path.now) }
+    ensures { OnOk result (string_bytes inside.new ≡ path_inside folder.now path.now) }
 {
     inside.clear();
     inside.push_str(folder)?;

@@ -4,7 +4,7 @@ ghost use Rattle.std.specs.Io.KnownBytes.{Appends, Keeps};
 ghost use Rattle.std.specs.Io.Buffered.{writer_inner};
 ghost use Rattle.dep_types.specs.Writing.{TakesPart};
 ghost use Rattle.dep_connection.specs.Flushing.{IsFlushed};
-ghost use Rattle.dep_program.specs.Gathering.{reported, held_in, given};
+ghost use Rattle.dep_program.specs.Gathering.{gathered_bytes, held_in, given};
 
 use dep_connection::{Flush, FlushFailed};
 use dep_types::{Outlet, WriteFailed};
@@ -49,7 +49,7 @@ impl<W: Write + Drop> Gathered<W> {
         ensures answers { result ≡ self.now.has_failed }
         ensures whole { result ≡ false
             → IsFlushed (held_in self.now) self.now.has_failed
-            → Keeps (reported W.contents self.now)
+            → Keeps (gathered_bytes W.contents self.now)
             (given W.contents self.now) }
     {
         self.has_failed
@@ -58,10 +58,10 @@ impl<W: Write + Drop> Gathered<W> {
     /// Takes the bytes behind those that it took, unless it has given up.
     #[tactic(auto, using(crate::proofs::GatheredLemmas::none_taken))]
     fn take(&mut self, bytes: &[u8]) -> Result<(), WriteFailed>
-        ensures ok { OnOk result (Appends (reported W.contents self.old)
-            (reported W.contents self.new) bytes.now) }
-        ensures err { OnErr result (TakesPart (reported W.contents self.old)
-            (reported W.contents self.new) bytes.now) }
+        ensures ok { OnOk result (Appends (gathered_bytes W.contents self.old)
+            (gathered_bytes W.contents self.new) bytes.now) }
+        ensures err { OnErr result (TakesPart (gathered_bytes W.contents self.old)
+            (gathered_bytes W.contents self.new) bytes.now) }
         ensures failures { self.new.failures ≡ self.old.failures }
     {
         if self.has_failed && !bytes.is_empty() {
@@ -79,7 +79,7 @@ impl<W: Write + Drop> Gathered<W> {
 }
 
 impl<W: Write + Drop> Outlet for Gathered<W> {
-    ghost taken = { λ outlet. reported W.contents outlet };
+    ghost taken = { λ outlet. gathered_bytes W.contents outlet };
 
     ghost failures = { λ outlet. outlet.failures };
 

@@ -1,7 +1,7 @@
 //! How a run of the program ended.
 ghost use Rattle.std.specs.Prelude.{◌≡◌};
 ghost use Rattle.std.specs.Option.{option_copied};
-ghost use Rattle.dep_program.specs.Outcomes.{status_of, line_of, outcome_of, outcome_sent};
+ghost use Rattle.dep_program.specs.Outcomes.{status_of, outcome_line, outcome_of, outcome_sent};
 
 use dep_connection::Served;
 
@@ -41,7 +41,7 @@ impl Outcome {
 
     /// The line on standard error, where there is one.
     pub fn line(self) -> Option<&'static str>
-        ensures { option_copied result ≡ line_of self }
+        ensures { option_copied result ≡ outcome_line self }
     {
         match self {
             Outcome::Done | Outcome::Damaged => None,

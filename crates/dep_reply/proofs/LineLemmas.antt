@@ -14,8 +14,8 @@ use Rattle.dep_moment.specs.Civil.{civil_of, http_text}
 use Rattle.dep_head.specs.Head.{head_end, empty_line, EndsOnce}
 use Rattle.dep_types.specs.Names.{is_media_byte, is_media}
 use Rattle.dep_types.specs.Numbers.{quoted_tag}
-use Rattle.dep_reply.specs.Head.{ReplyHead, phrase, line, status_text, status_line, field_text, optional, connection, head_text}
-use Rattle.dep_reply.specs.Lines.{is_unbroken, IsUnbroken, field_lines, head_lines, lines_behind, lines_of}
+use Rattle.dep_reply.specs.Head.{ReplyHead, phrase, line, status_and_phrase, status_line, field_text, optional_field, connection, head_text}
+use Rattle.dep_reply.specs.Lines.{is_unbroken, IsUnbroken, field_lines, head_lines, lines_behind, lines_in}
 
 -- neither CR nor LF
 abbrev pub is_plain : ℕ → Bool
@@ -106,7 +106,7 @@ phrase_is_unbroken n =
     (unbroken_if (n == 404) _ _ refl (unbroken_if (n == 405) _ _ refl (unbroken_if (n == 410) _ _ refl (unbroken_if (n == 412) _ _ refl
     (unbroken_if (n == 413) _ _ refl (unbroken_if (n == 415) _ _ refl (unbroken_if (n == 507) _ _ refl refl))))))))))
 
-unbroken_status : (status : ℕ) → IsTrue (is_unbroken (status_text status))
+unbroken_status : (status : ℕ) → IsTrue (is_unbroken (status_and_phrase status))
 unbroken_status n = simp (list_all-append, unbroken_decimal n, phrase_is_unbroken n)
 
 unbroken_quoted : (tag : ℕ) → IsTrue (is_unbroken (quoted_tag tag))
@@ -218,8 +218,8 @@ reads_line front (b ∷ c ∷ text) more p =
     break_if (b == 13 && c == 10) (front ∷ lines_behind [] (text ++ 13 ∷ 10 ∷ more)) (lines_behind (front ++ b ∷ []) (c ∷ text ++ 13 ∷ 10 ∷ more)) (no_break b c h.0)
     ∙ (reads_line (front ++ b ∷ []) (c ∷ text) more h.1 ∙ ap (λ l. l ∷ lines_behind [] more) (append_assoc front (b ∷ []) (c ∷ text)))
 
-pub reads_lines : (texts : List (List ℕ)) → AllUnbroken texts → lines_of (joined_lines texts) ≡ texts
-unfolding AllUnbroken joined_lines lines_of
+pub reads_lines : (texts : List (List ℕ)) → AllUnbroken texts → lines_in (joined_lines texts) ≡ texts
+unfolding AllUnbroken joined_lines lines_in
 reads_lines [] p = refl
 reads_lines (text ∷ texts) p = reads_line [] text (joined_lines texts) p.0 ∙ ap (λ l. text ∷ l) (reads_lines texts p.1)
 
@@ -285,7 +285,7 @@ own_are_lines r u =
     (given_line (codes "Allow") r.allow _ _ refl refl u.allow))
     (given_line (codes "Connection") (connection r.closes) _ _ refl refl (closes_line r.closes))
 
-status_is_line : (status : ℕ) → IsLine (status_text status)
+status_is_line : (status : ℕ) → IsLine (status_and_phrase status)
 status_is_line status = record { first = 72; rest = _; filled = refl; unbroken = unbroken_status status }
 
 -- ---- a head is its lines, joined
@@ -296,7 +296,7 @@ joined_both [] b = refl
 joined_both (text ∷ a) b =
     ap (λ l. text ++ 13 ∷ 10 ∷ l) (joined_both a b) ∙ sym (append_assoc text (13 ∷ 10 ∷ joined_lines a) (joined_lines b))
 
-joined_given : (name : List ℕ) (o : Option (List ℕ)) → joined_lines (field_lines name o) ≡ optional name o
+joined_given : (name : List ℕ) (o : Option (List ℕ)) → joined_lines (field_lines name o) ≡ optional_field name o
 unfolding joined_lines
 joined_given name None = refl
 joined_given name (Some value) = refl
@@ -306,10 +306,10 @@ regroup : (s a b c d e f g h : List ℕ) → s ++ 13 ∷ 10 ∷ (((((((a ++ b) +
 regroup s a b c d e f g h = simp append_assoc
 
 -- one field more
-joined_next : (lines : List (List ℕ)) (bytes name : List ℕ) (o : Option (List ℕ)) → joined_lines lines ≡ bytes → joined_lines (lines ++ field_lines name o) ≡ bytes ++ optional name o
+joined_next : (lines : List (List ℕ)) (bytes name : List ℕ) (o : Option (List ℕ)) → joined_lines lines ≡ bytes → joined_lines (lines ++ field_lines name o) ≡ bytes ++ optional_field name o
 joined_next lines bytes name o e = joined_both lines (field_lines name o) ∙ (λ i. e i ++ joined_given name o i)
 
-joined_own : (r : ReplyHead) → status_text r.status ++ 13 ∷ 10 ∷ joined_lines (own_lines r ++ [] ∷ []) ≡ head_text r
+joined_own : (r : ReplyHead) → status_and_phrase r.status ++ 13 ∷ 10 ∷ joined_lines (own_lines r ++ [] ∷ []) ≡ head_text r
 unfolding head_text status_line joined_lines
 joined_own r =
     let date = joined_given (codes "Date") (Some (http_text r.date)) in
@@ -319,27 +319,27 @@ joined_own r =
     let location = joined_next (tag_lines r) _ (codes "Location") r.location tag in
     let allow = joined_next (location_lines r) _ (codes "Allow") r.allow location in
     let own = joined_next (allow_lines r) _ (codes "Connection") (connection r.closes) allow in
-    ap (λ l. status_text r.status ++ 13 ∷ 10 ∷ l) (joined_both (own_lines r) ([] ∷ []) ∙ ap (λ l. l ++ 13 ∷ 10 ∷ []) own)
-    ∙ regroup (status_text r.status) (optional (codes "Date") (Some (http_text r.date))) (optional (codes "Content-Type") r.content_type)
-    (optional (codes "Content-Length") (option_map decimal r.content_length)) (optional (codes "ETag") (option_map quoted_tag r.tag))
-    (optional (codes "Location") r.location) (optional (codes "Allow") r.allow) (optional (codes "Connection") (connection r.closes)) (line [])
+    ap (λ l. status_and_phrase r.status ++ 13 ∷ 10 ∷ l) (joined_both (own_lines r) ([] ∷ []) ∙ ap (λ l. l ++ 13 ∷ 10 ∷ []) own)
+    ∙ regroup (status_and_phrase r.status) (optional_field (codes "Date") (Some (http_text r.date))) (optional_field (codes "Content-Type") r.content_type)
+    (optional_field (codes "Content-Length") (option_map decimal r.content_length)) (optional_field (codes "ETag") (option_map quoted_tag r.tag))
+    (optional_field (codes "Location") r.location) (optional_field (codes "Allow") r.allow) (optional_field (codes "Connection") (connection r.closes)) (line [])
 
 -- ---- the head as a whole
 
 pub head_ends : (r : ReplyHead) → IsUnbroken r → EndsOnce (head_text r)
 unfolding joined_lines
-head_ends r u = subst EndsOnce (joined_own r) (ends_once (status_text r.status) (own_lines r) (status_is_line r.status) (own_are_lines r u))
+head_ends r u = subst EndsOnce (joined_own r) (ends_once (status_and_phrase r.status) (own_lines r) (status_is_line r.status) (own_are_lines r u))
 
 all_unbroken : (texts : List (List ℕ)) → AreLines texts → AllUnbroken (texts ++ [] ∷ [])
 unfolding AllUnbroken AreLines
 all_unbroken [] p = (refl, tt)
 all_unbroken (text ∷ texts) p = (p.0.unbroken, all_unbroken texts p.1)
 
-pub head_reads : (r : ReplyHead) → IsUnbroken r → lines_of (head_text r) ≡ head_lines r
+pub head_reads : (r : ReplyHead) → IsUnbroken r → lines_in (head_text r) ≡ head_lines r
 unfolding AllUnbroken joined_lines
 head_reads r u =
-    ap lines_of (sym (joined_own r))
-    ∙ reads_lines (status_text r.status ∷ own_lines r ++ [] ∷ []) (unbroken_status r.status, all_unbroken (own_lines r) (own_are_lines r u))
+    ap lines_in (sym (joined_own r))
+    ∙ reads_lines (status_and_phrase r.status ∷ own_lines r ++ [] ∷ []) (unbroken_status r.status, all_unbroken (own_lines r) (own_are_lines r u))
 
 media_is_plain : (b : ℕ) → IsTrue (is_media_byte b) → IsTrue (is_plain b)
 media_is_plain b p = grind (arith, nat_tests)

@@ -34,11 +34,11 @@ phrase status =
 abbrev pub line : List ℕ → List ℕ
 line text = text ++ codes "\r\n"
 
-abbrev pub status_text : ℕ → List ℕ
-status_text status = codes "HTTP/1.1 " ++ decimal status ++ codes " " ++ phrase status
+abbrev pub status_and_phrase : ℕ → List ℕ
+status_and_phrase status = codes "HTTP/1.1 " ++ decimal status ++ codes " " ++ phrase status
 
 unfoldable pub status_line : ℕ → List ℕ
-status_line status = line (status_text status)
+status_line status = line (status_and_phrase status)
 
 abbrev pub field_text : (name value : List ℕ) → List ℕ
 field_text name value = name ++ codes ": " ++ value
@@ -47,21 +47,21 @@ abbrev pub field : (name value : List ℕ) → List ℕ
 field name value = line (field_text name value)
 
 -- a field, where there is a value
-abbrev pub optional : (name : List ℕ) → Option (List ℕ) → List ℕ
-optional name None = []
-optional name (Some value) = field name value
+abbrev pub optional_field : (name : List ℕ) → Option (List ℕ) → List ℕ
+optional_field name None = []
+optional_field name (Some value) = field name value
 
 -- a field whose value is a number, in decimal digits
 abbrev pub number_field : (name : List ℕ) → Option ℕ → List ℕ
-number_field name value = optional name (option_map decimal value)
+number_field name value = optional_field name (option_map decimal value)
 
 -- the field of an entity tag
 abbrev pub tag_field : Option ℕ → List ℕ
-tag_field tag = optional (codes "ETag") (option_map quoted_tag tag)
+tag_field tag = optional_field (codes "ETag") (option_map quoted_tag tag)
 
 -- the head's bytes are these, with some behind them
-abbrev pub Grows : (old new more : List ℕ) → Type 0
-Grows old new more = new ≡ old ++ more
+abbrev pub GrowsByBytes : (old new more : List ℕ) → Type 0
+GrowsByBytes old new more = new ≡ old ++ more
 
 abbrev pub connection : Bool → Option (List ℕ)
 connection closes = if closes then Some (codes "close") else None
@@ -71,10 +71,10 @@ unfoldable pub head_text : ReplyHead → List ℕ
 head_text r =
     status_line r.status
     ++ field (codes "Date") (http_text r.date)
-    ++ optional (codes "Content-Type") r.content_type
+    ++ optional_field (codes "Content-Type") r.content_type
     ++ number_field (codes "Content-Length") r.content_length
     ++ tag_field r.tag
-    ++ optional (codes "Location") r.location
-    ++ optional (codes "Allow") r.allow
-    ++ optional (codes "Connection") (connection r.closes)
+    ++ optional_field (codes "Location") r.location
+    ++ optional_field (codes "Allow") r.allow
+    ++ optional_field (codes "Connection") (connection r.closes)
     ++ line []

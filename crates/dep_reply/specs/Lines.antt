@@ -3,7 +3,7 @@ use Rattle.std.specs.Prelude.{ℕ, ◌==◌, ◌&&◌, not, Bool, IsTrue, IfSome
 use Rattle.std.specs.List.{list_all}
 use Rattle.dep_moment.specs.Civil.{http_text}
 use Rattle.dep_types.specs.Numbers.{quoted_tag}
-use Rattle.dep_reply.specs.Head.{ReplyHead, status_text, field_text, connection}
+use Rattle.dep_reply.specs.Head.{ReplyHead, status_and_phrase, field_text, connection}
 
 -- neither CR nor LF
 abbrev pub is_unbroken : List ℕ → Bool
@@ -23,7 +23,7 @@ field_lines name (Some value) = field_text name value ∷ []
 -- the lines of a head: its status, each field that it has, and the empty line
 abbrev pub head_lines : ReplyHead → List (List ℕ)
 head_lines r =
-    status_text r.status
+    status_and_phrase r.status
     ∷ field_lines (codes "Date") (Some (http_text r.date))
     ++ field_lines (codes "Content-Type") r.content_type
     ++ field_lines (codes "Content-Length") (option_map decimal r.content_length)
@@ -42,5 +42,5 @@ lines_behind front (b ∷ c ∷ text) =
     else lines_behind (front ++ b ∷ []) (c ∷ text)
 
 -- its lines
-unfoldable pub lines_of : List ℕ → List (List ℕ)
-lines_of text = lines_behind [] text
+unfoldable pub lines_in : List ℕ → List (List ℕ)
+lines_in text = lines_behind [] text

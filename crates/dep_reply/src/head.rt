@@ -1,7 +1,7 @@
 //! The head of a reply as bytes.
 ghost use Rattle.std.specs.Prelude.{◌≡◌, IfOk, OnOk};
 ghost use Rattle.std.specs.Option.{option_copied};
-ghost use Rattle.dep_reply.specs.Head.{Grows, head_text, field, optional, number_field, tag_field, status_line};
+ghost use Rattle.dep_reply.specs.Head.{GrowsByBytes, head_text, field, optional_field, number_field, tag_field, status_line};
 ghost use Rattle.dep_reply.specs.Statuses.{status_number};
 
 use crate::reply::Reply;
@@ -33,7 +33,7 @@ pub fn spell_head(alloc: Global, reply: &Reply) -> Result<Vec<u8>, AllocError>
 #[tactic(auto, unfolding(crate::specs::Head::status_line))]
 fn push_status_line(head: &mut Vec<u8>, status: Status) -> Result<(), AllocError>
     ensures { OnOk result
-        (Grows head.old.items head.new.items (status_line (status_number status))) }
+        (GrowsByBytes head.old.items head.new.items (status_line (status_number status))) }
 {
     let mut digits = Buffer::new();
     head.extend_from_slice(b"HTTP/1.1 ")?;
@@ -44,7 +44,7 @@ fn push_status_line(head: &mut Vec<u8>, status: Status) -> Result<(), AllocError
 }
 
 fn push_field(head: &mut Vec<u8>, name: &str, value: &[u8]) -> Result<(), AllocError>
-    ensures { OnOk result (Grows head.old.items head.new.items (field name.now value.now)) }
+    ensures { OnOk result (GrowsByBytes head.old.items head.new.items (field name.now value.now)) }
 {
     head.extend_from_slice(name.as_bytes())?;
     head.extend_from_slice(b": ")?;
@@ -54,7 +54,7 @@ fn push_field(head: &mut Vec<u8>, name: &str, value: &[u8]) -> Result<(), AllocE
 
 fn push_text(head: &mut Vec<u8>, name: &str, value: Option<&str>) -> Result<(), AllocError>
     ensures { OnOk result
-        (Grows head.old.items head.new.items (optional name.now (option_copied value.entry))) }
+        (GrowsByBytes head.old.items head.new.items (optional_field name.now (option_copied value.entry))) }
 {
     let Some(text) = value else {
         return Ok(());
@@ -64,7 +64,7 @@ fn push_text(head: &mut Vec<u8>, name: &str, value: Option<&str>) -> Result<(), 
 
 fn push_number(head: &mut Vec<u8>, name: &str, value: Option<u64>) -> Result<(), AllocError>
     ensures { OnOk result
-        (Grows head.old.items head.new.items (number_field name.now value)) }
+        (GrowsByBytes head.old.items head.new.items (number_field name.now value)) }
 {
     let Some(number) = value else {
         return Ok(());
@@ -74,7 +74,7 @@ fn push_number(head: &mut Vec<u8>, name: &str, value: Option<u64>) -> Result<(),
 }
 
 fn push_tag(head: &mut Vec<u8>, value: Option<u64>) -> Result<(), AllocError>
-    ensures { OnOk result (Grows head.old.items head.new.items (tag_field value)) }
+    ensures { OnOk result (GrowsByBytes head.old.items head.new.items (tag_field value)) }
 {
     let Some(tag) = value else {
         return Ok(());

@@ -5,7 +5,7 @@ ghost use Rattle.dep_types.specs.Base.{IsBase};
 ghost use Rattle.dep_types.specs.Names.{is_media};
 ghost use Rattle.dep_reply.specs.Head.{ReplyHead, head_text};
 ghost use Rattle.dep_reply.specs.ExampleHeads.{not_allowed_head, not_allowed_text, created_head, created_text, no_content_head, no_content_text};
-ghost use Rattle.dep_reply.specs.Lines.{IsUnbroken, is_unbroken, head_lines, lines_of};
+ghost use Rattle.dep_reply.specs.Lines.{IsUnbroken, is_unbroken, head_lines, lines_in};
 
 /// The head of the reply to a method that the resource does not have, on a connection that is then closed.
 pub fn head_of_method_not_allowed()
@@ -26,7 +26,7 @@ pub fn head_of_no_content()
 /// lines and no others. So no text in it can begin another field, or another reply (RFC 9112, section 11.1).
 pub fn unbroken_heads_end_once()
     ensures ends { (r : ReplyHead) → IsUnbroken r → EndsOnce (head_text r) }
-    ensures lines { (r : ReplyHead) → IsUnbroken r → lines_of (head_text r) ≡ head_lines r }
+    ensures lines { (r : ReplyHead) → IsUnbroken r → lines_in (head_text r) ≡ head_lines r }
 {}
 
 /// A media type breaks no line.

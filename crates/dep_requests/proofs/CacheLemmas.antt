@@ -17,7 +17,7 @@ use Rattle.dep_fields.specs.declared.field.Field.{Field}
 use Rattle.dep_fields.specs.declared.field.Field.TheVariants.{Absent, Bad, Value}
 use Rattle.dep_fields.specs.declared.kind.Kind.{Kind}
 use Rattle.dep_decisions.specs.Decisions.{references_in, references_by}
-use Rattle.dep_decisions.specs.Kinds.{kind_of, kind_by, kind_without, takes_kind, may_hold}
+use Rattle.dep_decisions.specs.Kinds.{content_kind, kind_by, kind_without, takes_kind, may_hold}
 use Rattle.dep_decisions.specs.declared.operation.Operation.{Operation}
 use Rattle.dep_operations.specs.Views.{true_view, seen_at, touched_with}
 use Rattle.dep_types.specs.Methods.{is_safe}
@@ -141,8 +141,8 @@ takes_none_at Delete k h = cc h
 takes_none : (op : Operation) (k : Kind) → ReadsService op → takes_kind op.target.resource op.target.method k ≡ false
 takes_none op k reads = subst (λ (r : Resource). takes_kind r op.target.method k ≡ false) (sym reads.resource) (takes_none_at op.target.method k reads.method)
 
-kind_none : (op : Operation) → ReadsService op → kind_of op ≡ None
-unfolding kind_of
+kind_none : (op : Operation) → ReadsService op → content_kind op ≡ None
+unfolding content_kind
 kind_none op reads = each op.fields.disposition
   where
     each : (d : Field Kind) → kind_by op d ≡ None

@@ -10,7 +10,7 @@ use Rattle.dep_types.specs.declared.target.Method.{Method}
 use Rattle.dep_types.specs.declared.target.Method.TheVariants.{Get, Head, Post, Put, Delete}
 use Rattle.dep_fields.specs.declared.kind.Kind.{Kind}
 use Rattle.dep_fields.specs.declared.kind.Kind.TheVariants as of
-use Rattle.dep_decisions.specs.Kinds.{is_completion, kind_of}
+use Rattle.dep_decisions.specs.Kinds.{is_completion, content_kind}
 use Rattle.dep_decisions.specs.Decisions.{decision, decision_at, decision_with, deposit_of, files_of, ingests, opened, received, references_in, replaced_file, texts_of}
 use Rattle.dep_decisions.specs.Effects.{effect, effect_of}
 use Rattle.dep_decisions.specs.declared.decision.Deposit.{Deposit}
@@ -99,17 +99,17 @@ module _ (config : Config) (op : Operation) where
     asked (FileSet n) Get = tt
     asked (FileSet n) Head = tt
     asked (FileSet n) Post = tt
-    asked (File n f) Put = replaces n f (kind_of op)
+    asked (File n f) Put = replaces n f (content_kind op)
     asked (File n f) Delete = tt
     asked (File n f) Get = tt
     asked (File n f) Head = tt
     asked (File n f) Post = tt
-    asked Staging Post = opens (kind_of op)
+    asked Staging Post = opens (content_kind op)
     asked Staging Get = tt
     asked Staging Head = tt
     asked Staging Put = tt
     asked Staging Delete = tt
-    asked (Upload u) Post = receives u (kind_of op)
+    asked (Upload u) Post = receives u (content_kind op)
     asked (Upload u) Delete = tt
     asked (Upload u) Get = tt
     asked (Upload u) Head = tt

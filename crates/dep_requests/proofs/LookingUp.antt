@@ -7,7 +7,7 @@ use Rattle.dep_types.specs.declared.target.Resource.TheVariants.{Service}
 use Rattle.dep_fields.specs.declared.kind.Kind.TheVariants as of
 use Rattle.dep_docs_in.specs.declared.reference.Reference.{Reference}
 use Rattle.dep_decisions.specs.Decisions.{references_in}
-use Rattle.dep_decisions.specs.Kinds.{kind_of}
+use Rattle.dep_decisions.specs.Kinds.{content_kind}
 use Rattle.dep_decisions.specs.Laws.{refusal_before_room, uploads_refusal}
 use Rattle.dep_decisions.specs.LookUps.{in_state, without_entries}
 use Rattle.dep_decisions.specs.declared.operation.Operation.{Operation}
@@ -15,7 +15,7 @@ use Rattle.dep_decisions.proofs.BeforeDigests.{refused_before, refused_before_en
 use Rattle.dep_decisions.proofs.ByUploads.{refused_by_uploads}
 use Rattle.dep_decisions.proofs.Deposited.{kind_is}
 use Rattle.dep_operations.specs.Rulings.{RefusesUndigested, RefusesUnnamed}
-use Rattle.dep_operations.specs.Views.{touched_by, uploads_in, uploads_named}
+use Rattle.dep_operations.specs.Views.{touched_by, uploads_looked_up, uploads_named}
 use Rattle.dep_operations.specs.declared.view.View.{View}
 use Rattle.dep_operations.proofs.Staged.{by_reference_elsewhere}
 use Rattle.dep_views.specs.Seen.{loaded_undigested}
@@ -59,7 +59,7 @@ module _ (config : Config) (s : State) (op : Operation) (loaded : LoadedView) wh
       in_op : (refs : List Reference) × (references_in config op ≡ Some refs)
       in_op = found (references_in config op) (ap is_some (sym (ap (λ (l : LoadedView). l.view.references) same)) ∙ some)
 
-      kind : kind_of op ≡ Some of.References
+      kind : content_kind op ≡ Some of.References
       kind = kind_is config op in_op.0 in_op.1
 
       early_is : early ≡ refusal_before_room config (without_entries (in_state s)) op
@@ -78,7 +78,7 @@ module _ (config : Config) (s : State) (op : Operation) (loaded : LoadedView) wh
       uploads_are =
           ap (λ (l : LoadedView). l.uploads) same
           ∙ by_reference_elsewhere config op kind
-          ∙ ap (uploads_in Service) in_op.1
+          ∙ ap (uploads_looked_up Service) in_op.1
 
       pub looked_refused : is_some early ≡ false → (r : Refusal) → uploads_refusal (in_state s) loaded.uploads ≡ Some r → IsLookedUp config s op loaded (Some r)
       looked_refused passes r refuses =

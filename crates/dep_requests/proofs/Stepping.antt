@@ -52,7 +52,7 @@ use Rattle.dep_row_maps.specs.Clauses.{ChangesWithin, SeesState}
 use Rattle.dep_views.specs.Seen.{file_at_path}
 use Rattle.dep_views.specs.declared.view.LoadedView.{LoadedView}
 use Rattle.dep_requests.specs.declared.performing.Ruled.{Ruled}
-use Rattle.dep_requests.specs.Performing.{ChangesNothing, IsDigestedFor, IsLookedUp, OnlyReads, Rules, Sees, SeesFor, row_for}
+use Rattle.dep_requests.specs.Performing.{ChangesNothing, IsDigestedFor, IsLookedUp, AsksToBeShown, Rules, Sees, SeesFor, row_for}
 
 -- a step leaves a sound state
 pub step_sound : (config : Config) (s : State) (op : Operation) → AreFit op.fields → IsSound s → IsSound (operation_step config s op).state
@@ -68,13 +68,13 @@ pub sees_still : (old new : db.State) (s : State) → new.now ≡ old.now → Se
 sees_still old new s still are = subst (λ (d : Database). TablesAre (tables_in d.trees) s) (sym still) are
 
 -- what changes nothing is refused or shown
-pub only_reads : (config : Config) (s : State) (op : Operation) (r : Ruling) → IsRuling config s op r → ChangesNothing config s op → OnlyReads r
+pub only_reads : (config : Config) (s : State) (op : Operation) (r : Ruling) → IsRuling config s op r → ChangesNothing config s op → AsksToBeShown r
 only_reads config s op (Refuse r) is nothing = tt
 only_reads config s op (Do d) is (inl refused) = absurd (refused is.0)
 only_reads config s op (Do d) is (inr show) = is.1 ∙ show
 
 -- so it is just of these
-pub reads_alike : (config : Config) (s : State) (op : Operation) (r : Ruling) → IsRuling config s op r → OnlyReads r → ChangesNothing config s op
+pub reads_alike : (config : Config) (s : State) (op : Operation) (r : Ruling) → IsRuling config s op r → AsksToBeShown r → ChangesNothing config s op
 reads_alike config s op (Refuse r) is only = inl (λ none. let both = sym is ∙ none in cc both)
 reads_alike config s op (Do d) is only = inr (sym is.1 ∙ only)
 

@@ -73,17 +73,17 @@ pub record IsLookedUp (config : Config) (s : State) (op : Operation) (loaded : L
   pub passed : looked ≡ None → loaded ≡ loaded_undigested s op.content (touched_by config op)
 
 -- nothing is changed where it is refused, or only asks to be shown
-abbrev pub OnlyReads : Ruling → Type 0
-OnlyReads (Refuse r) = Unit {0}
-OnlyReads (Do d) = d ≡ Show
+abbrev pub AsksToBeShown : Ruling → Type 0
+AsksToBeShown (Refuse r) = Unit {0}
+AsksToBeShown (Do d) = d ≡ Show
 
 -- so it is of a request that is refused, or asks for nothing but to be shown
 abbrev pub ChangesNothing : Config → State → Operation → Type 0
 ChangesNothing config s op = (refusal config s op ≢ None) ⊎ (decision config op ≡ Show)
 
 -- what the reply to a request that was accepted shows of a state
-abbrev pub shown_by : State → Operation → Shown
-shown_by s op = shown_at s (read_set_of s.next op.target.resource op.target.method)
+abbrev pub shown_in_reply : State → Operation → Shown
+shown_in_reply s op = shown_at s (read_set_of s.next op.target.resource op.target.method)
 
 -- the answer that it gets there
 abbrev pub answered_at : Config → State → Operation → Answer
@@ -105,7 +105,7 @@ row_for op ruled =
 -- the tables are those of what it makes of the state, of which this is shown
 abbrev pub ShowsEffect : Config → State → Operation → db.State → Shown → Type 0
 ShowsEffect config s op new shown =
-    SeesState new (effect config s op) × (shown ≡ shown_by (effect config s op) op)
+    SeesState new (effect config s op) × (shown ≡ shown_in_reply (effect config s op) op)
 
 -- what was decided is carried out, and shown, where it was ruled rightly
 abbrev pub IsCarriedOut : (old new : db.State) → Operation → Ruled → Decision
@@ -132,8 +132,8 @@ pub record IsDone (old new : db.State) (config : Config) (op : Operation) (runni
   pub ours : db.HasCleanDisk new → IsTrue old.in_transaction → IsOurs old → IsOurs new
 
 -- what was hashed of uploads is what was received of them, as it was before
-abbrev pub KeepsRunning : (old new : db.State) → (before now : RunningHashes) → Type 0
-KeepsRunning old new before now =
+abbrev pub KeepsRunningHashes : (old new : db.State) → (before now : RunningHashes) → Type 0
+KeepsRunningHashes old new before now =
     FromMaps old new (λ s. IsSound s → AreRunning s before → AreRunning s now)
 
 -- what was ruled rightly is followed

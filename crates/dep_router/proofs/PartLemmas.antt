@@ -15,7 +15,7 @@ use Rattle.dep_router.proofs.SlashLemmas.{split-all, segment-cut, drop-past, tak
 use Rattle.dep_router.proofs.PathLemmas.{found_route, below_part, object_segments}
 use Rattle.dep_router.specs.declared.pages.Page.{Page}
 use Rattle.dep_router.specs.declared.pages.Page.TheVariants.{Service, Object, Metadata, FileSet, File, Staging, Upload, BagList, BagFile}
-use Rattle.dep_router.specs.Pages.{routes, parts_of, pattern_of, text_of, names_of, at_object, Found, Parts, resource_by}
+use Rattle.dep_router.specs.Pages.{routes, named_parts, pattern_of, text_of, name_spans, at_object, Found, NamedParts, resource_by}
 
 -- literal bytes of a pattern, each of which stands in the path
 wild-run : (w rest : List ℕ) (len token at : ℕ) → IsText w → at + length w ≤ len → wild_from (w ++ rest) len token at ≡ wild_from rest len (token + length w) (at + length w)
@@ -124,7 +124,7 @@ bag_text = search rules
 pub whole_front : (n w q : List ℕ) → at_object n (w ++ q) ≡ at_object n w ++ (q ++ [])
 whole_front n w q = ap (at_object n) (ap (λ z. w ++ z) (sym (append-nil q))) ∙ ap (λ z. codes "/objects/" ++ z) (sym (append_assoc n w (q ++ [])))
 
-pub walk-file : (n f : List ℕ) → has_slash n ≡ false → walk (pattern_of File) (text_of File) (at_object n (codes "/files/" ++ f)) (names_of File) 0 0 ≡ (codes "object", n) ∷ (codes "file", f) ∷ []
+pub walk-file : (n f : List ℕ) → has_slash n ≡ false → walk (pattern_of File) (text_of File) (at_object n (codes "/files/" ++ f)) (name_spans File) 0 0 ≡ (codes "object", n) ∷ (codes "file", f) ∷ []
 walk-file n f h =
     let path = at_object n (codes "/files/" ++ f) in
     let long : length path ≡ 9 + (length n + (7 + length f)) = object_long n (codes "/files/" ++ f) ∙ ap (λ k. 9 + (length n + k)) (length-append (codes "/files/") f) in
@@ -137,7 +137,7 @@ walk-file n f h =
     (walk-name (pattern_of File) (text_of File) path (25, 29) [] 10 (9 + length n) (17, 9 + length n + 7) (length path) w refl
     ∙ ap (λ z. (codes "file", z) ∷ []) (part-is path (at_object n (codes "/files/")) f [] (9 + length n + 7) (length path) front (omega arith) (omega arith)))
 
-pub walk-path : (n q : List ℕ) → has_slash n ≡ false → walk (pattern_of BagFile) (text_of BagFile) (at_object n (codes "/bag/" ++ q)) (names_of BagFile) 0 0 ≡ (codes "object", n) ∷ (codes "path", q) ∷ []
+pub walk-path : (n q : List ℕ) → has_slash n ≡ false → walk (pattern_of BagFile) (text_of BagFile) (at_object n (codes "/bag/" ++ q)) (name_spans BagFile) 0 0 ≡ (codes "object", n) ∷ (codes "path", q) ∷ []
 walk-path n q h =
     let path = at_object n (codes "/bag/" ++ q) in
     let long : length path ≡ 9 + (length n + (5 + length q)) = object_long n (codes "/bag/" ++ q) ∙ ap (λ k. 9 + (length n + k)) (length-append (codes "/bag/") q) in
@@ -199,13 +199,13 @@ path_name : IsUtf8 (codes "path")
 path_name = search rules
 
 -- what is read at a path of a page: text, and the resource that the path names
-abbrev pub Reads : Page → List ℕ → Parts → Type 0
+abbrev pub Reads : Page → List ℕ → NamedParts → Type 0
 Reads page path parts = AllText parts × (resource_by page parts ≡ resource_of (segments path))
 
-abbrev pub walk_of : Page → List ℕ → Parts
-walk_of page path = walk (pattern_of page) (text_of page) path (names_of page) 0 0
+abbrev pub walk_of : Page → List ℕ → NamedParts
+walk_of page path = walk (pattern_of page) (text_of page) path (name_spans page) 0 0
 
-from_parts : (page : Page) (path same : List ℕ) (parts : Parts) → path ≡ same → walk_of page same ≡ parts → Reads page same parts → Reads page path (walk_of page path)
+from_parts : (page : Page) (path same : List ℕ) (parts : NamedParts) → path ≡ same → walk_of page same ≡ parts → Reads page same parts → Reads page path (walk_of page path)
 from_parts page path same parts e w h =
     subst (λ z. Reads page z (walk_of page z)) (sym e) (subst (Reads page same) (sym w) h)
 
@@ -284,7 +284,7 @@ entry_of params value = record { pattern = params.pattern.now; text = params.tex
 
 -- what `at` found is read as the path names it
 pub found_reads : (router : RowsOf (RouteOf Page)) (path : List ℕ) (params : Params) (value : Page) → IsText path → IsUtf8 path → router ≡ routes
-    → first router path ≡ Some (entry_of params value) → params.path.now ≡ path → Reads value path (parts_of params)
+    → first router path ≡ Some (entry_of params value) → params.path.now ≡ path → Reads value path (named_parts params)
 found_reads router path params value i u made found same =
     let f = found_route path (entry_of params value) i (ap (λ r. first r path) (sym made) ∙ found) in
     let h : Reads value path (walk params.pattern.now params.text.now path params.names.now 0 0) =

@@ -7,7 +7,7 @@ use Rattle.dep_router.specs.declared.pages.Page.TheVariants.{BagFile}
 use Rattle.dep_router.specs.declared.reading.Place.{Place}
 use Rattle.dep_router.specs.declared.reading.Place.TheVariants as at
 use Rattle.dep_router.specs.Targets.{bag_file}
-use Rattle.dep_router.specs.Pages.{Parts}
+use Rattle.dep_router.specs.Pages.{NamedParts}
 
 -- the resource that a place is
 abbrev pub resource_at : Option Place → Option Resource
@@ -16,7 +16,7 @@ resource_at (Some (at.InBag object path)) = bag_file object path.now
 resource_at None = None
 
 -- a path in a bag is what a parameter of its page took
-abbrev pub IsPathOf : Page → Parts → Option Place → Type 0
+abbrev pub IsPathOf : Page → NamedParts → Option Place → Type 0
 IsPathOf page parts (Some (at.InBag object path)) = (page ≡ BagFile) × (named (codes "path") parts ≡ Some path.now)
 IsPathOf page parts _ = ⊤
 

@@ -1,7 +1,7 @@
 //! What a page names, by its parameters.
 ghost use Rattle.std.specs.Prelude.{◌≡◌};
 ghost use Rattle.matchit.specs.Params.{AllText};
-ghost use Rattle.dep_router.specs.Pages.{parts_of, resource_by, object_resource_by, number_named as spec_number_named};
+ghost use Rattle.dep_router.specs.Pages.{named_parts, resource_by, object_resource_by, number_named as spec_number_named};
 ghost use Rattle.dep_router.specs.Places.{IsPathOf, resource_at};
 
 use crate::pages::Page;
@@ -20,9 +20,9 @@ pub(crate) enum Place<'a> {
 
 /// What a page names, by what its parameters took; `None` where the text of a number is no such number.
 pub(crate) fn place_of_page<'p>(page: Page, params: &Params<'_, 'p>) -> Option<Place<'p>>
-    requires { AllText (parts_of params.now) }
-    ensures named { resource_at result ≡ resource_by page (parts_of params.now) }
-    ensures path { IsPathOf page (parts_of params.now) result }
+    requires { AllText (named_parts params.now) }
+    ensures named { resource_at result ≡ resource_by page (named_parts params.now) }
+    ensures path { IsPathOf page (named_parts params.now) result }
 {
     match page {
         Page::Service => Some(Place::Resource(Resource::Service)),
@@ -37,9 +37,9 @@ pub(crate) fn place_of_page<'p>(page: Page, params: &Params<'_, 'p>) -> Option<P
 
 // What a page names of an object: the object itself, or what stands behind it.
 fn place_of_object<'p>(object: u64, page: Page, params: &Params<'_, 'p>) -> Option<Place<'p>>
-    requires { AllText (parts_of params.now) }
-    ensures named { resource_at result ≡ object_resource_by page object (parts_of params.now) }
-    ensures path { IsPathOf page (parts_of params.now) result }
+    requires { AllText (named_parts params.now) }
+    ensures named { resource_at result ≡ object_resource_by page object (named_parts params.now) }
+    ensures path { IsPathOf page (named_parts params.now) result }
 {
     match page {
         Page::Object => Some(Place::Resource(Resource::Object(object))),
@@ -57,8 +57,8 @@ fn place_of_object<'p>(object: u64, page: Page, params: &Params<'_, 'p>) -> Opti
 
 // The number that the parameter of this name took, as paths write it.
 fn number_named(params: &Params<'_, '_>, name: &str) -> Option<u64>
-    requires { AllText (parts_of params.now) }
-    ensures { result ≡ spec_number_named name.now (parts_of params.now) }
+    requires { AllText (named_parts params.now) }
+    ensures { result ≡ spec_number_named name.now (named_parts params.now) }
 {
     let text = params.get(name)?;
     positive_decimal(text.as_bytes(), GREATEST_NUMBER)

@@ -4,7 +4,7 @@ use Rattle.std.specs.Option.{option_map_or}
 use Rattle.std.specs.FinMap as finmap
 use Rattle.dep_types.specs.Maps.{Numbered}
 use Rattle.dep_types.specs.State.{Object, File}
-use Rattle.dep_tables.specs.Rows.{kind_of, number_of}
+use Rattle.dep_tables.specs.Rows.{owner_kind, owner_number}
 use Rattle.dep_tables.specs.declared.owner.BlockOwner.{BlockOwner}
 use Rattle.dep_tables.specs.declared.owner.BlockOwner.TheVariants as owner
 use Rattle.dep_row_maps.specs.TablesAre.{AreFilesOwn, files_at}
@@ -12,16 +12,16 @@ use Rattle.dep_row_maps.proofs.Files.{same_number}
 use Rattle.dep_row_maps.proofs.Lens.{get_here, get_there, get_gone, get_left, under_here, under_there}
 
 pub other_file : (a b : ℕ) → a ≢ b → ◌≢◌ {A = BlockOwner} (owner.File a) (owner.File b)
-other_file a b apart e = apart (ap number_of e)
+other_file a b apart e = apart (ap owner_number e)
 
 pub other_upload : (a b : ℕ) → a ≢ b → ◌≢◌ {A = BlockOwner} (owner.Upload a) (owner.Upload b)
-other_upload a b apart e = apart (ap number_of e)
+other_upload a b apart e = apart (ap owner_number e)
 
 pub no_upload : (u f : ℕ) → ◌≢◌ {A = BlockOwner} (owner.Upload u) (owner.File f)
-no_upload u f e = let kinds : ◌≡◌ {A = ℕ} 1 0 = ap kind_of e in absurd (omega arith)
+no_upload u f e = let kinds : ◌≡◌ {A = ℕ} 1 0 = ap owner_kind e in absurd (omega arith)
 
 pub no_file : (f u : ℕ) → ◌≢◌ {A = BlockOwner} (owner.File f) (owner.Upload u)
-no_file f u e = let kinds : ◌≡◌ {A = ℕ} 0 1 = ap kind_of e in absurd (omega arith)
+no_file f u e = let kinds : ◌≡◌ {A = ℕ} 0 1 = ap owner_kind e in absurd (omega arith)
 
 pub none_of : {X : Type 0} (x : Option X) → ((y : X) → x ≡ Some y → ⊥) → x ≡ None
 none_of None h = refl

@@ -12,7 +12,7 @@ use Rattle.dep_types.specs.State.{Upload}
 use Rattle.dep_types.specs.Uploads.{assembled}
 use Rattle.dep_row_maps.specs.Owned.{placed}
 use Rattle.dep_row_maps.specs.Stored.{pieces, blocks_of, block_size}
-use Rattle.dep_row_maps.specs.TablesAre.{joined}
+use Rattle.dep_row_maps.specs.TablesAre.{joined_parts}
 use Rattle.dep_row_maps.proofs.Spreads.{both, missing}
 
 pub placed-append : {X Y : Type 0} (f : ℕ → X → Y) (k : ℕ) (xs ys : List X) → placed f k (xs ++ ys) ≡ placed f k xs ++ placed f (k + length xs) ys
@@ -181,7 +181,7 @@ module _ {X : Type 0} where
           go Greater t = rw t h
 
 -- the parts that an upload has received, joined, are what it assembles
-pub assembled-joined : (u : Upload) → ((k : ℕ) (bytes : List ℕ) → map.get u.segments k ≡ Some bytes → (1 ≤ k) × (k ≤ u.count)) → joined u.segments ≡ assembled u
+pub assembled-joined : (u : Upload) → ((k : ℕ) (bytes : List ℕ) → map.get u.segments k ≡ Some bytes → (1 ≤ k) × (k ≤ u.count)) → joined_parts u.segments ≡ assembled u
 assembled-joined u within =
     let es = map.entries u.segments in
     let all = all_found (λ k _. (1 ≤ k) × (k < 1 + u.count)) es (map.entries_sorted u.segments) (λ k x h. let w = within k x (map.get-entries u.segments k ∙ h) in (w.0, omega (arith, w.1))) in

@@ -5,7 +5,7 @@ use Rattle.std.proofs.lemmas.Cmp.{nat_cmp_total}
 use Rattle.std.specs.List.{flat_map}
 use Rattle.std.specs.FinMap as finmap
 use Rattle.dep_row_maps.specs.Stored.{blocks_of, put_blocks}
-use Rattle.dep_row_maps.specs.TablesAre.{HasContent, IsCutBy, files_at, joined}
+use Rattle.dep_row_maps.specs.TablesAre.{HasContent, IsCutBy, files_at, joined_parts}
 use Rattle.dep_types.specs.Maps.{Numbered}
 use Rattle.dep_types.specs.State.{File}
 use Rattle.dep_row_maps.proofs.Lens.{get_here, get_there}
@@ -17,7 +17,7 @@ use Rattle.dep_row_maps.proofs.Contents.{content_put}
 use Rattle.dep_row_maps.proofs.Whole.{file_added, segment_added, segments_there}
 use Rattle.dep_tables.specs.declared.owner.BlockOwner.TheVariants as owner
 
-one_joined : (k : ℕ) (content : List ℕ) → joined (finmap.insert finmap.empty k content) ≡ content
+one_joined : (k : ℕ) (content : List ℕ) → joined_parts (finmap.insert finmap.empty k content) ≡ content
 one_joined k content = ap (flat_map (λ e. e.1)) (finmap.entries-insert nat_cmp_total finmap.empty k content ∙ ap (finmap.put nat_cmp k content) (entries-empty nat_cmp (List ℕ))) ∙ append-nil content
 
 far : (k n : ℕ) → n ≤ suc k * suc n

@@ -41,8 +41,8 @@ abbrev pub upload_stored : ℕ → Upload → Row
 upload_stored u it = stored_upload (columns_of_upload (upload_row u it))
 
 -- a row of this object in `metadata`, or of this upload in `segments`
-abbrev pub is_of : ℕ → Row → Bool
-is_of = has_number 1
+abbrev pub is_row_of : ℕ → Row → Bool
+is_row_of = has_number 1
 
 -- a row of this object in `files`
 abbrev pub is_file_of : ℕ → Row → Bool
@@ -64,12 +64,12 @@ abbrev pub metadata_rows : ℕ → Texts → List Row
 metadata_rows n = spread (text_rows n)
 
 -- the texts under a name
-abbrev pub texts_in : Texts → List ℕ → List (List ℕ)
-texts_in m name = unwrap_or (map.get m name) []
+abbrev pub texts_under : Texts → List ℕ → List (List ℕ)
+texts_under m name = unwrap_or (map.get m name) []
 
 -- one more text under a name
-abbrev pub added : Texts → List ℕ × List ℕ → Texts
-added m p = map.insert m p.0 (texts_in m p.0 ++ p.1 ∷ [])
+abbrev pub with_added_text : Texts → List ℕ × List ℕ → Texts
+with_added_text m p = map.insert m p.0 (texts_under m p.0 ++ p.1 ∷ [])
 
 -- each text with its name, name by name
 abbrev pub listed : Texts → List (List ℕ × List ℕ)
@@ -77,7 +77,7 @@ listed = spread (λ name texts. each (λ t. (name, t)) texts)
 
 -- the map of such a list
 abbrev pub grouped : List (List ℕ × List ℕ) → Texts
-grouped = fold added map.empty
+grouped = fold with_added_text map.empty
 
 -- the name and the value of a row of `metadata` as it is shown
 abbrev pub pair_seen : Row → List ℕ × List ℕ
@@ -87,7 +87,7 @@ pair_seen row = (bytes (column row 1), bytes (column row 3))
 abbrev pub put_texts : ℕ → Texts → List (List ℕ × List ℕ) → List Row → List Row
 put_texts n m [] rows = rows
 put_texts n m (p ∷ ps) rows =
-    put_texts n (added m p) ps (put_next (text_values n p.0 (length (texts_in m p.0)) p.1) rows)
+    put_texts n (with_added_text m p) ps (put_next (text_values n p.0 (length (texts_under m p.0)) p.1) rows)
 
 -- ---- segments
 

@@ -35,7 +35,7 @@ use Rattle.dep_migrations.specs.Beside.{LacksFormat}
 use Rattle.dep_schema.specs.OpenTables.{HasKnownVersion}
 use Rattle.dep_schema.specs.Texts.{find_format_text}
 use Rattle.dep_tables.specs.Faults.{fault_for}
-use Rattle.dep_schema.specs.OpenFaults.{open_fault_for, reported_by, ReportsError, FindsVersion, ShowsVersion, ShowsNone, FailsToReport, FailsToFind, FailsToFindOrMake, begun, GivesOut, RefusesKnown}
+use Rattle.dep_schema.specs.OpenFaults.{open_fault_for, version_reported_by, ReportsError, FindsVersion, ShowsVersion, ShowsNone, FailsToFindFormat, FailsToFind, FailsToFindOrMake, begun, GivesOut, RefusesKnown}
 use Rattle.dep_migrations.specs.Faults.{FailsToMake}
 use Rattle.dep_schema.specs.declared.lending.Lent.{Lent}
 use Rattle.dep_schema.specs.declared.opening.OpenFault.{OpenFault}
@@ -86,22 +86,22 @@ module _ (old new : State) (rows : List Row) (shown : Shown find_format_text [] 
 -- ---- an error of the query for the version
 
 sorted : (e : Error)
-    → ((e ≡ SqlInputError NoSuchTable) × (reported_by e ≡ Ok None))
-    ⊎ (((why : CompileError) × (e ≡ SqlInputError why) × (why ≢ NoSuchTable) × (reported_by e ≡ Err UnknownVersion))
-    ⊎ (((why : CompileError) → e ≢ SqlInputError why) × (reported_by e ≡ Err (open_fault_for (fault_for e)))))
+    → ((e ≡ SqlInputError NoSuchTable) × (version_reported_by e ≡ Ok None))
+    ⊎ (((why : CompileError) × (e ≡ SqlInputError why) × (why ≢ NoSuchTable) × (version_reported_by e ≡ Err UnknownVersion))
+    ⊎ (((why : CompileError) → e ≢ SqlInputError why) × (version_reported_by e ≡ Err (open_fault_for (fault_for e)))))
 sorted (SqlInputError NoSuchTable) = inl (refl, refl)
 sorted (SqlInputError why) = inr (inl (why, refl, (λ is. cc), refl))
 sorted e = inr (inr ((λ why is. cc), refl))
 
 -- it tells no version that is not known
-pub version_reported : (e : Error) (r : Result (Option ℕ) OpenFault) → r ≡ reported_by e → IfOk r (λ found. IfSome found IsKnownVersion)
+pub version_reported : (e : Error) (r : Result (Option ℕ) OpenFault) → r ≡ version_reported_by e → IfOk r (λ found. IfSome found IsKnownVersion)
 version_reported e r is = elim (sorted e) [
   | inl none ↦ subst (λ x. IfOk x (λ found. IfSome found IsKnownVersion)) (sym (is ∙ none.1)) tt
   | inr (inl text) ↦ subst (λ x. IfOk x (λ found. IfSome found IsKnownVersion)) (sym (is ∙ text.3)) tt
   | inr (inr other) ↦ subst (λ x. IfOk x (λ found. IfSome found IsKnownVersion)) (sym (is ∙ other.1)) tt
 ]
 
-module _ (old new : State) (e : Error) (r : Result (Option ℕ) OpenFault) (is : r ≡ reported_by e) (failed : FailsToReport old new e) where
+module _ (old new : State) (e : Error) (r : Result (Option ℕ) OpenFault) (is : r ≡ version_reported_by e) (failed : FailsToFindFormat old new e) where
   abbrev IsNoVersion : Result (Option ℕ) OpenFault → Type 0
   IsNoVersion x = MatchResult x (λ found. found ≡ None) (λ fault. fault ≢ UnknownVersion)
 
@@ -135,8 +135,8 @@ module _ (old new : State) (e : Error) (r : Result (Option ℕ) OpenFault) (is :
 
   pub finds_reported : MatchResult r (λ found. MatchOption found (ShowsNone old new) (ShowsVersion old new)) (FailsToFind old new)
   finds_reported = elim (sorted e) [
-    | inl none ↦ subst IsReported (sym (is ∙ none.1)) (subst (FailsToReport old new) none.0 failed)
-    | inr (inl text) ↦ subst IsReported (sym (is ∙ text.3)) (inl (refl, inr (text.0, subst (FailsToReport old new) text.1 failed, text.2)))
+    | inl none ↦ subst IsReported (sym (is ∙ none.1)) (subst (FailsToFindFormat old new) none.0 failed)
+    | inr (inl text) ↦ subst IsReported (sym (is ∙ text.3)) (inl (refl, inr (text.0, subst (FailsToFindFormat old new) text.1 failed, text.2)))
     | inr (inr other) ↦ subst IsReported (sym (is ∙ other.1)) (inr (e, failed, other.0, refl))
   ]
 
@@ -209,7 +209,7 @@ module _ (its : Schema) (is_known : IsKnownSchema its) (old new : State) (ours :
   refused db given command schema none is h =
       inr (stops_in its is_known old.step_limit e db.trees (subst₂ (λ (s : Schema) (p : Row). RefusesQuery old.step_limit (record { schema = s; trees = db.trees }) asked p e) schema none (subst (λ k. RefusesToRead old.step_limit k db given e) is h)))
 
-  stops : FailsToReport old new e → StopsBy old new e
+  stops : FailsToFindFormat old new e → StopsBy old new e
   unfolding FailsToQuery IsNotRun
   stops (inl (inl (inl (inl reported, same)))) = absurd (no_text reported.0 reported.2)
   stops (inl (inl (inl (inr (c, is, inl whole), same)))) = absurd (whole.0 (omega (arith, (whole_in its is_known).whole, ap whole_of (known c is))))

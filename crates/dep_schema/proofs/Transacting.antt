@@ -23,7 +23,7 @@ use Rattle.sqlite.proofs.Callers.{survives_begin}
 use Rattle.sqlite.proofs.StateLemmas.{survives_then}
 use Rattle.dep_schema.proofs.Asking.{LentStays}
 use Rattle.dep_schema.proofs.Transactions.{begins_open, represents_left}
-use Rattle.dep_schema.specs.States.{TablesRepresent, Represents, Leaves}
+use Rattle.dep_schema.specs.States.{TablesRepresent, Represents, DatabaseLeaves}
 use Rattle.dep_schema.specs.Transactions.{TransactsTo, Transacts, FailsToEnd, OnlyReports, IsBackAt, IsGivenBack}
 
 -- what a crash leaves while nothing is left to be settled
@@ -46,11 +46,11 @@ left_still old new t settled represents survives clean trees h = elim (survives.
   | inr none ↦ absurd none
 ]
 
-pub leaves_as_was : (d : db.State) (s : State) → IsSettled d → Represents d s → Leaves d (λ left. left ≡ s)
+pub leaves_as_was : (d : db.State) (s : State) → IsSettled d → Represents d s → DatabaseLeaves d (λ left. left ≡ s)
 leaves_as_was d s settled represents trees h =
     (s, inl (represents.tables, left_as_was d represents.tables settled represents.represents trees h, represents.means), refl)
 
-pub leaves_still : (old new : db.State) (s : State) → IsSettled old → Represents old s → Survives old new (λ _. ⊥) → HasCleanDisk new → Leaves new (λ left. left ≡ s)
+pub leaves_still : (old new : db.State) (s : State) → IsSettled old → Represents old s → Survives old new (λ _. ⊥) → HasCleanDisk new → DatabaseLeaves new (λ left. left ≡ s)
 leaves_still old new s settled represents survives clean trees h =
     (s, inl (represents.tables, left_still old new represents.tables settled represents.represents survives clean trees h, represents.means), refl)
 
@@ -277,7 +277,7 @@ module _ {A E : Type 0} (old new : db.State) (result : Result A E) (Makes : Tabl
       (made.0, record { tables = does.0; represents = does.1; means = made.1 }))
 
   pub stop_over_states : Transacts old new result Makes → HasCleanDisk new → (s : State) → IsOver s → Represents old s
-      → Leaves new (λ left. (left ≡ s) ⊎ (left ≡ next s))
+      → DatabaseLeaves new (λ left. (left ≡ s) ⊎ (left ≡ next s))
   stop_over_states it clean s over represents trees h = elim (it.stop clean represents.tables represents.represents trees h) [
     | inl earlier ↦ (s, inl (represents.tables, earlier, represents.means), inl refl)
     | inr (answer, after, holds, makes) ↦ (

@@ -18,7 +18,7 @@ use Rattle.sqlite_resolve.specs.declared.error.CompileError.{CompileError}
 use Rattle.sqlite_resolve.specs.declared.error.CompileError.TheVariants.{NoSuchTable}
 use Rattle.sqlite_schema.specs.declared.program.Program.{Program}
 use Rattle.sqlite.proofs.Callers.{IsPlain, command_of, one_permutation}
-use Rattle.dep_statements.specs.Query.{one_table, plainly, no_limit, passes}
+use Rattle.dep_statements.specs.Query.{one_table, plainly, no_limit, passes_tests}
 use Rattle.dep_statements.proofs.Answered.{shown_of, in_any_order}
 use Rattle.dep_statements.proofs.Asked.{store_only, shown_unchanged, unread, unread_as, understood_asks}
 use Rattle.dep_statements.proofs.Statements.{selected}
@@ -32,7 +32,7 @@ use Rattle.dep_migrations.specs.Beside.{LacksFormat}
 use Rattle.dep_schema.proofs.Missing.{find_missing, find_plain}
 use Rattle.dep_tables.specs.Tables.{tables_of, IsKnownSchema, IsKnown}
 use Rattle.dep_tables.specs.Versions.{our_version, older_version, HasVersion}
-use Rattle.dep_migrations.specs.FirstTables.{no_schema, Sees, IsBeside, GainsOurs, first_tables}
+use Rattle.dep_migrations.specs.FirstTables.{no_schema, Sees, IsBeside, GainsOurs, new_store_tables}
 use Rattle.dep_schema.specs.OpenTables.{HasKnownVersion, Holds, IsOpenBeside, CommitsBySchema}
 use Rattle.dep_schema.specs.OpenFaults.{open_fault_for, AreVersion, AreKnownVersion, ShowsVersion, ReportsVersion}
 use Rattle.dep_types.specs.declared.store_fault.StoreFault.{StoreFault}
@@ -74,7 +74,7 @@ find_none s lacks = find_missing s.now.schema lacks.table lacks.view
 pub empty_lacks : (schema : Schema) → schema ≡ no_schema → LacksFormat schema
 empty_lacks schema empty = subst LacksFormat (sym empty) (record { table = refl; view = refl })
 
-all_pass : (params : Row) (rows : List Row) → filter (passes params []) rows ≡ rows
+all_pass : (params : Row) (rows : List Row) → filter (passes_tests params []) rows ≡ rows
 all_pass params [] = refl
 all_pass params (r ∷ rows) = ap (λ xs. r ∷ xs) (all_pass params rows)
 
@@ -85,7 +85,7 @@ finds_rows : (old new : State) (rows : List Row) → IsKnown old → Shown find_
 finds_rows old new rows (its, known, ours) h =
     let finds = finds_in its known in
     let picked = selected its find_format_text [] old new ours.schema finds.plain 0 [] shows [] no_limit names finds.is finds.unlisted refl rows h in
-    subst (λ xs. IsPermutation (map (shown_of [] shows) xs) rows) (all_pass [] (old.now.trees 0)) (in_any_order 0 [] shows [] [] (filter (passes [] []) (old.now.trees 0)) rows picked)
+    subst (λ xs. IsPermutation (map (shown_of [] shows) xs) rows) (all_pass [] (old.now.trees 0)) (in_any_order 0 [] shows [] [] (filter (passes_tests [] []) (old.now.trees 0)) rows picked)
 
 known_reported : (version : ℕ) (format rows : List Row) → IsPermutation (reported format) rows → AreVersion (pos version) rows → reported format ≡ (Int (pos 1) ∷ Int (pos version) ∷ []) ∷ []
 known_reported version format rows same known =
@@ -178,17 +178,17 @@ pub never_passed : {A : Type 0} (r : Result A OpenFault) (fault : StoreFault) �
 never_passed r fault is said = named_fault fault (open_fault_for fault) refl (reported_as r (open_fault_for fault) UnknownVersion is said)
 
 -- what is committed at the end
-commits_open : (old last : State) → (old.now.schema ≡ no_schema → Sees last first_tables) → (IsKnown old → last.now ≡ old.now) → (LacksFormat old.now.schema → GainsOurs old.now last.now) → (db : Trees) → db ≡ last.now.trees → CommitsBySchema old db
+commits_open : (old last : State) → (old.now.schema ≡ no_schema → Sees last new_store_tables) → (IsKnown old → last.now ≡ old.now) → (LacksFormat old.now.schema → GainsOurs old.now last.now) → (db : Trees) → db ≡ last.now.trees → CommitsBySchema old db
 commits_open old last made there gains db is = record {
   found = λ ours. is ∙ ap (λ (d : Database). d.trees) (there ours);
-  new = λ empty. let sees = made empty in subst (λ trees. Holds trees first_tables) (sym is) (record { ours = sees.ours.trees; rows = sees.rows });
+  new = λ empty. let sees = made empty in subst (λ trees. Holds trees new_store_tables) (sym is) (record { ours = sees.ours.trees; rows = sees.rows });
   free = λ lacks. (gains lacks).free;
   beside = λ lacks has. subst (IsBeside old.now) (sym is) ((gains lacks).made has).1;
 }
 
 -- a crash leaves what was there, or what is committed
 pub survives_open : (old last new : State) → Survives old last (λ _. ⊥) → Survives last new (λ db. db ≡ last.now.trees)
-    → (HasCleanDisk last → old.now.schema ≡ no_schema → Sees last first_tables) → (HasCleanDisk last → IsKnown old → last.now ≡ old.now) → (HasCleanDisk last → LacksFormat old.now.schema → GainsOurs old.now last.now) → Survives old new (CommitsBySchema old)
+    → (HasCleanDisk last → old.now.schema ≡ no_schema → Sees last new_store_tables) → (HasCleanDisk last → IsKnown old → last.now ≡ old.now) → (HasCleanDisk last → LacksFormat old.now.schema → GainsOurs old.now last.now) → Survives old new (CommitsBySchema old)
 survives_open old last new begun ended made there gains =
     survives_then old last new (λ _. ⊥) (λ db. db ≡ last.now.trees) (CommitsBySchema old) (λ _ db none. absurd none) (λ clean db is.
     let sure : HasCleanDisk last = omega (arith, clean, ended.clean) in

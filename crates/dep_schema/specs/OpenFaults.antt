@@ -39,10 +39,10 @@ ReportsError e fault = fault ≡ open_fault_for (fault_for e)
 
 -- what an error of the query for the version means: there is no `format`, or it has no such columns;
 -- and else SQLite failed
-abbrev pub reported_by : Error → Result (Option ℕ) OpenFault
-reported_by (SqlInputError NoSuchTable) = Ok None
-reported_by (SqlInputError _) = Err open_fault.UnknownVersion
-reported_by e = Err (open_fault_for (fault_for e))
+abbrev pub version_reported_by : Error → Result (Option ℕ) OpenFault
+version_reported_by (SqlInputError NoSuchTable) = Ok None
+version_reported_by (SqlInputError _) = Err open_fault.UnknownVersion
+version_reported_by e = Err (open_fault_for (fault_for e))
 
 -- what the query for the version shows of a version: just one row, of id 1 and this version
 abbrev pub AreVersion : ℤ → List Row → Type 0
@@ -67,22 +67,22 @@ module _ (old new : State) where
       (rows : List Row) × Shown find_format_text [] old new rows × AreVersion (pos version) rows
 
   -- it fails with this error
-  abbrev pub FailsToReport : Error → Type 0
-  FailsToReport e = FailsToQuery find_format_text [] old new e ⊎ IsTooLate find_format_text [] old new e
+  abbrev pub FailsToFindFormat : Error → Type 0
+  FailsToFindFormat e = FailsToQuery find_format_text [] old new e ⊎ IsTooLate find_format_text [] old new e
 
   -- there is no `format`
   abbrev pub ShowsNone : Type 0
-  ShowsNone = FailsToReport (SqlInputError NoSuchTable)
+  ShowsNone = FailsToFindFormat (SqlInputError NoSuchTable)
 
   -- it shows something else, or can't be asked of the `format` that is there
   abbrev pub ShowsOther : Type 0
   ShowsOther =
       ((rows : List Row) × Shown find_format_text [] old new rows × (AreKnownVersion rows → ⊥))
-      ⊎ ((why : CompileError) × FailsToReport (SqlInputError why) × (why ≢ NoSuchTable))
+      ⊎ ((why : CompileError) × FailsToFindFormat (SqlInputError why) × (why ≢ NoSuchTable))
 
   -- it fails otherwise than by its text
   abbrev pub FailsOtherwise : OpenFault → Type 0
-  FailsOtherwise fault = (e : Error) × FailsToReport e
+  FailsOtherwise fault = (e : Error) × FailsToFindFormat e
       × ((why : CompileError) → e ≢ SqlInputError why) × ReportsError e fault
 
   -- why the query for the version opens nothing

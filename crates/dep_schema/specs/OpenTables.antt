@@ -15,7 +15,7 @@ use Rattle.dep_tables.specs.Clauses.{StaysInside, StaysWithin}
 use Rattle.dep_tables.specs.Versions.{IsKnownVersion, HasVersion}
 use Rattle.dep_tables.specs.Schema.{our_schema, older_schema}
 use Rattle.dep_migrations.specs.Beside.{LacksFormat, AreFree, with_ours}
-use Rattle.dep_migrations.specs.FirstTables.{no_schema, first_tables, IsBeside}
+use Rattle.dep_migrations.specs.FirstTables.{no_schema, new_store_tables, IsBeside}
 
 -- what a crash may leave, and the next `open` find
 pub record HoldsOf (its : Schema) (trees : Trees) (tables : Tables) : Type 0 where
@@ -73,7 +73,7 @@ IsOpenable s =
 -- there is none, and the same beside the tables of others where our names are free
 pub record CommitsBySchema (s : State) (trees : Trees) : Type 0 where
   pub found : IsKnown s → trees ≡ s.now.trees
-  pub new : s.now.schema ≡ no_schema → Holds trees first_tables
+  pub new : s.now.schema ≡ no_schema → Holds trees new_store_tables
   pub free : LacksFormat s.now.schema → AreFree s.now.schema
   pub beside : LacksFormat s.now.schema → HasCounters s.now.schema → IsBeside s.now trees
 
@@ -81,7 +81,7 @@ pub record CommitsBySchema (s : State) (trees : Trees) : Type 0 where
 pub record CommitsOpen (s : State) (trees : Trees) : Type 0 where
   pub found : IsTrue s.is_open → (its : Schema) → IsKnownSchema its → (tables : Tables)
       → HoldsOf its s.now.trees tables → HoldsOf its trees tables
-  pub new : IsTrue s.is_open → HoldsNone s.now.trees → Holds trees first_tables
+  pub new : IsTrue s.is_open → HoldsNone s.now.trees → Holds trees new_store_tables
   pub free : LacksFormat s.now.schema → AreFree s.now.schema
   pub beside : LacksFormat s.now.schema → HasCounters s.now.schema → IsBeside s.now trees
 

@@ -8,7 +8,7 @@ use Rattle.dep_statements.specs.Adding.{HasCounters}
 use Rattle.dep_tables.specs.Tables.{Tables, tables_of, IsOf, IsKnownSchema}
 use Rattle.dep_tables.specs.Versions.{our_version, HasVersion}
 use Rattle.dep_migrations.specs.Beside.{LacksFormat}
-use Rattle.dep_migrations.specs.FirstTables.{first_tables}
+use Rattle.dep_migrations.specs.FirstTables.{new_store_tables}
 use Rattle.dep_schema.specs.OpenTables.{HoldsNone, HoldsOf, StaysFile, IsOpenWithOf, IsOpenBeside, CommitsOpen}
 use Rattle.dep_schema.specs.OpenFaults.{begun, ShowsOrMakes, FailsToOpen}
 use Rattle.dep_schema.specs.declared.opening.OpenFault.{OpenFault}
@@ -28,7 +28,7 @@ module _ {S : Type 0} (g : Ghosts S) (old new : Held S) where
   -- the version and the tables of a new store, where there was no table at all
   abbrev pub RepresentsFresh : ℕ → Type 0
   RepresentsFresh version = HasCleanDisk (state g new) → HoldsNone (state g old).now.trees
-      → StaysFile (state g new) first_tables × (version ≡ our_version)
+      → StaysFile (state g new) new_store_tables × (version ≡ our_version)
 
   -- the version and the tables that there were, where they were of one of our versions
   abbrev pub RepresentsFound : ℕ → Type 0

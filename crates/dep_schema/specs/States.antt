@@ -37,8 +37,8 @@ IsLeftAs trees s =
     ⊎ ((t : Tables) × HoldsOlder trees t × OlderTablesRepresent t s)
 
 -- whatever a crash leaves now represents one of these states
-abbrev pub Leaves : db.State → (State → Type 0) → Type 0
-Leaves d allowed = (trees : Trees) → d.may_leave trees
+abbrev pub DatabaseLeaves : db.State → (State → Type 0) → Type 0
+DatabaseLeaves d allowed = (trees : Trees) → d.may_leave trees
     → (left : State) × IsLeftAs trees left × allowed left
 
 -- for each state that it represented, it represents one that is so related to it

@@ -7,13 +7,13 @@ ghost use Rattle.sqlite.specs.State.{HasCleanDisk, IsUnchanged, Survives};
 ghost use Rattle.sqlite.specs.Held.{state};
 ghost use Rattle.dep_tables.specs.Tables.{IsKnown};
 ghost use Rattle.dep_tables.specs.Versions.{our_version, older_version, IsKnownVersion};
-ghost use Rattle.dep_migrations.specs.FirstTables.{no_schema, first_tables};
+ghost use Rattle.dep_migrations.specs.FirstTables.{no_schema, new_store_tables};
 ghost use Rattle.dep_schema.specs.OpenTables.{StaysFile, IsOpenable, CommitsBySchema, IsBack, IsStill, HasOtherVersion, StaysOn};
 ghost use Rattle.dep_migrations.specs.Beside.{LacksFormat, AreFree};
 ghost use Rattle.dep_schema.specs.Making.{FindsNone, FindsKnown, FindsShown, AddsFirst, LeavesKnown, FindsOrMakes};
 ghost use Rattle.dep_migrations.specs.Making.{MakesFirst};
 ghost use Rattle.dep_schema.specs.Opening.{RepresentsKnown, RepresentsMade, RepresentsFresh, RepresentsFound, RepresentsAdded, WasOpen, SurvivesOpen, OpensBy, RefusesBy};
-ghost use Rattle.dep_schema.specs.OpenFaults.{open_fault_number, reported_by, AreVersion, FindsVersion, ShowsOrMakes, begun, FailsToOpen, RefusesKnown};
+ghost use Rattle.dep_schema.specs.OpenFaults.{open_fault_number, version_reported_by, AreVersion, FindsVersion, ShowsOrMakes, begun, FailsToOpen, RefusesKnown};
 
 use crate::committing::commit;
 use crate::lending::Lent;
@@ -114,7 +114,7 @@ fn are_known(rows: &[Row], version: i64) -> bool
 
 /// What an error of the query for the version means: that no table `format` is there, or a fault.
 fn reported_by(error: Error) -> Result<Option<u64>, OpenFault>
-    ensures { result ≡ reported_by error }
+    ensures { result ≡ version_reported_by error }
 {
     match error {
         Error::SqlInputError(CompileError::NoSuchTable) => Ok(None),
@@ -194,7 +194,7 @@ fn prepare<S: Alter>(connection: &mut Connection<S>) -> Result<u64, OpenFault>
     requires settled { (state S.Store connection.old).in_transaction ≡ false }
     ensures fresh { HasCleanDisk (state S.Store connection.new)
         → (state S.Store connection.old).now.schema ≡ no_schema
-        → OnOk result (StaysFile (state S.Store connection.new) first_tables) }
+        → OnOk result (StaysFile (state S.Store connection.new) new_store_tables) }
     ensures found { RepresentsKnown (state S.Store connection.old) (state S.Store connection.new)
         result }
     ensures made { HasCleanDisk (state S.Store connection.new)

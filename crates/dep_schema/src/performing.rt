@@ -31,7 +31,7 @@ fn answer_within<S: Alter>(
 ) -> Result<Done, StoreFault>
     ensures does { IfOk result (IsDone (state S.Store tx.old.conn.now) (state S.Store tx.new.conn.now)
         service.now operation.now running.old) }
-    ensures running { within.KeepsRunning (state S.Store tx.old.conn.now)
+    ensures running { within.KeepsRunningHashes (state S.Store tx.old.conn.now)
         (state S.Store tx.new.conn.now) running.old running.new }
     ensures plain { IsTrue (is_plain_read operation.now) → IfOk result
         (IsDoneAlone (state S.Store tx.old.conn.now) (state S.Store tx.new.conn.now)

@@ -13,8 +13,8 @@ use Rattle.dep_fields.specs.declared.field.Field.{Field}
 use Rattle.dep_fields.specs.declared.field.Field.TheVariants.{Absent, Bad, Value}
 use Rattle.dep_fields.specs.declared.kind.Kind.{Kind}
 use Rattle.dep_fields.specs.declared.kind.Kind.TheVariants as of
-use Rattle.dep_reply.specs.Head.{ReplyHead, status_line, field, optional, connection, line, head_text}
-use Rattle.dep_decisions.specs.Kinds.{kind_of, kind_by, is_completion}
+use Rattle.dep_reply.specs.Head.{ReplyHead, status_line, field, optional_field, connection, line, head_text}
+use Rattle.dep_decisions.specs.Kinds.{content_kind, kind_by, is_completion}
 use Rattle.dep_decisions.specs.LookUps.{in_state}
 use Rattle.dep_decisions.specs.Rules.{refusal, kind_rule}
 use Rattle.dep_decisions.specs.declared.operation.Operation.{Operation}
@@ -30,7 +30,7 @@ use Rattle.dep_router.specs.declared.routed.Routed.{Routed}
 use Rattle.dep_router.specs.declared.routed.Routed.TheVariants.{To}
 use Rattle.dep_exchange.specs.Machine.{operation_of, routed_step, step}
 use Rattle.dep_decisions.specs.Laws.{posted_to}
-use Rattle.dep_server.specs.Acknowledged.{HasStatus, IsReceived}
+use Rattle.dep_server.specs.Acknowledged.{BeginsWithStatus, IsReceived}
 use Rattle.dep_server.proofs.SegmentsStay.{received_by}
 
 -- ---- a refusal's reply has another status
@@ -54,12 +54,12 @@ other_status _ x y e = apart _ _ e refl refl
 pub fields_text : ReplyHead → List ℕ
 fields_text r =
     field (codes "Date") (http_text r.date)
-    ++ optional (codes "Content-Type") r.content_type
-    ++ optional (codes "Content-Length") (option_map decimal r.content_length)
-    ++ optional (codes "ETag") (option_map quoted_tag r.tag)
-    ++ optional (codes "Location") r.location
-    ++ optional (codes "Allow") r.allow
-    ++ optional (codes "Connection") (connection r.closes)
+    ++ optional_field (codes "Content-Type") r.content_type
+    ++ optional_field (codes "Content-Length") (option_map decimal r.content_length)
+    ++ optional_field (codes "ETag") (option_map quoted_tag r.tag)
+    ++ optional_field (codes "Location") r.location
+    ++ optional_field (codes "Allow") r.allow
+    ++ optional_field (codes "Connection") (connection r.closes)
     ++ line []
 
 regroup : (s a b c d e f g h document : List ℕ) → ((((((((s ++ a) ++ b) ++ c) ++ d) ++ e) ++ f) ++ g) ++ h) ++ document
@@ -71,12 +71,12 @@ pub front_begins : (a : Answer) (clock : ℕ) (head_only ends : Bool)
 unfolding front_text head_text fields_text
 front_begins a clock head_only ends =
     let r = head_of a clock ends in
-    regroup (status_line a.status) (field (codes "Date") (http_text r.date)) (optional (codes "Content-Type") r.content_type)
-    (optional (codes "Content-Length") (option_map decimal r.content_length)) (optional (codes "ETag") (option_map quoted_tag r.tag))
-    (optional (codes "Location") r.location) (optional (codes "Allow") r.allow) (optional (codes "Connection") (connection r.closes)) (line [])
+    regroup (status_line a.status) (field (codes "Date") (http_text r.date)) (optional_field (codes "Content-Type") r.content_type)
+    (optional_field (codes "Content-Length") (option_map decimal r.content_length)) (optional_field (codes "ETag") (option_map quoted_tag r.tag))
+    (optional_field (codes "Location") r.location) (optional_field (codes "Allow") r.allow) (optional_field (codes "Connection") (connection r.closes)) (line [])
     (unless_head_only head_only (document_of a.content))
 
-not_refused : (s : State) (r : Refusal) (head_only ends : Bool) → HasStatus 204 (sent_by (refused_step s r None head_only ends)) → ⊥
+not_refused : (s : State) (r : Refusal) (head_only ends : Bool) → BeginsWithStatus 204 (sent_by (refused_step s r None head_only ends)) → ⊥
 not_refused s r head_only ends h =
     let a = refused_answer s.clock r None in
     let behind : List ℕ = fields_text (head_of a s.clock ends) ++ unless_head_only head_only (document_of a.content) in
@@ -105,22 +105,22 @@ taken m u (Value of.References) kind e = cc
 taken m u (Value (of.Opening o)) kind e = cc
 
 module _ (config : Config) (s : State) (m : Message) (u : ℕ) where
-  named_kind : refusal config s (operation_of m (posted_to u)) ≡ None → is_some (kind_of (operation_of m (posted_to u))) ≡ true
+  named_kind : refusal config s (operation_of m (posted_to u)) ≡ None → is_some (content_kind (operation_of m (posted_to u))) ≡ true
   unfolding kind_rule is_completion
   named_kind accepted =
       let op : Operation = operation_of m (posted_to u) in
       let passed = content_passed config (in_state s) op accepted refl in
-      one_of (is_some (kind_of op)) (is_completion op) (unless-none (is_some (kind_of op) || is_completion op) why.BadRequest passed.kind) refl
+      one_of (is_some (content_kind op)) (is_completion op) (unless-none (is_some (content_kind op) || is_completion op) why.BadRequest passed.kind) refl
 
-  pub named_segment : refusal config s (operation_of m (posted_to u)) ≡ None → (k : ℕ) × (kind_of (operation_of m (posted_to u)) ≡ Some (of.Segment k))
-  unfolding kind_of
+  pub named_segment : refusal config s (operation_of m (posted_to u)) ≡ None → (k : ℕ) × (content_kind (operation_of m (posted_to u)) ≡ Some (of.Segment k))
+  unfolding content_kind
   named_segment accepted =
       let op : Operation = operation_of m (posted_to u) in
-      let kind = some_of (kind_of op) (named_kind accepted) in
+      let kind = some_of (content_kind op) (named_kind accepted) in
       let segment = taken m u op.fields.disposition kind.0 kind.1 in
       (segment.0, kind.1 ∙ ap (λ (k : Kind). Some k) segment.1)
 
-  by_refusal : (o : Option Refusal) → refusal config s (operation_of m (posted_to u)) ≡ o → HasStatus 204 (sent_by (step_by config s (operation_of m (posted_to u)) o))
+  by_refusal : (o : Option Refusal) → refusal config s (operation_of m (posted_to u)) ≡ o → BeginsWithStatus 204 (sent_by (step_by config s (operation_of m (posted_to u)) o))
       → IsReceived (step_by config s (operation_of m (posted_to u)) o).state m u
   by_refusal None accepted h =
       let k = named_segment accepted in
@@ -129,9 +129,9 @@ module _ (config : Config) (s : State) (m : Message) (u : ℕ) where
 
 -- what is answered with 204 stands in the state that the step leaves
 pub replied_represents : (config : Config) (s : State) (m : Message) (moment u : ℕ) → target m.head.method m.head.path ≡ To (posted_to u)
-    → HasStatus 204 (sent_by (step config s (Request m) moment)) → IsReceived (step config s (Request m) moment).state m u
+    → BeginsWithStatus 204 (sent_by (step config s (Request m) moment)) → IsReceived (step config s (Request m) moment).state m u
 unfolding step operation_step
 replied_represents config s m moment u named h =
     let t = tick config s moment in
-    subst (λ (r : Routed). HasStatus 204 (sent_by (routed_step config t m r)) → IsReceived (routed_step config t m r).state m u) (sym named)
+    subst (λ (r : Routed). BeginsWithStatus 204 (sent_by (routed_step config t m r)) → IsReceived (routed_step config t m r).state m u) (sym named)
     (by_refusal config t m u (refusal config t (operation_of m (posted_to u))) refl) h

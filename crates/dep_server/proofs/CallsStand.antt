@@ -8,7 +8,7 @@ use Rattle.dep_hub.specs.declared.hub.Hub.{Hub}
 use Rattle.dep_exchange.specs.declared.arrived.Arrived.{Arrived}
 use Rattle.dep_exchange.specs.declared.arrived.Arrived.TheVariants.{Open as StaysOpen, Closed, Cut, NoSuch}
 use Rattle.dep_hub.proofs.HubLemmas.{same_represents}
-use Rattle.dep_server.specs.Calls.{Comes, Call, Calls, connects, refuses, closes, arrives, none, and_then, records_of}
+use Rattle.dep_server.specs.Calls.{Comes, Call, Calls, connects, refuses, closes, arrives, none, and_then, arrival_records}
 
 module _ {A : Type 0} (condition : A → Condition) where
   -- a store that is open now was open before a call that left it
@@ -24,7 +24,7 @@ module _ {A : Type 0} (condition : A → Condition) where
 
     came_adds : (answer : Arrived) (c : Comes condition old new number piece moment answer) → IsClean condition new
         → (first : State) (before : List Record) → RepresentsAfter condition old first before
-        → RepresentsAfter condition new first (before ++ records_of condition old new number piece moment answer c)
+        → RepresentsAfter condition new first (before ++ arrival_records condition old new number piece moment answer c)
     came_adds NoSuch c clean first before h =
         subst (λ rs. RepresentsAfter condition new first rs) (sym (append-nil before)) (subst (λ (x : Hub A). RepresentsAfter condition x first before) (sym c.comes.same) h)
     came_adds StaysOpen c clean first before h = c.comes.arrival.adds clean first before h

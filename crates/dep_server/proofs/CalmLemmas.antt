@@ -7,7 +7,7 @@ use Rattle.dep_message.specs.Stream.{Item}
 use Rattle.dep_answers.specs.Steps.{sent_by}
 use Rattle.dep_exchange.specs.Machine.{step, replies, state_after, Serves}
 use Rattle.dep_exchange.specs.Records.{Event, Record, stopped, Line, World, Run, Happens, Arrives}
-use Rattle.dep_server.specs.Calm.{SteppedItem, steps_of, CalmServes, all_served, CalmArrives, live, shut_line, Calm, connect, close, arrive, none, CalmRun, AnyCalmRun, BeginAlike, nothing, more, stop, is_of, sent_to, bytes_if, EndAlike}
+use Rattle.dep_server.specs.Calm.{SteppedItem, steps_of, CalmServes, all_served, CalmArrives, live, shut_line, Calm, connect, close, arrive, none, CalmRun, AnyCalmRun, BeginAlike, nothing, more, stop, is_event_of, sent_to, bytes_if, EndAlike}
 use Rattle.dep_exchange.specs.declared.arrived.Arrived.{Arrived}
 
 -- the state that the steps leave
@@ -52,10 +52,10 @@ to_by_items n m config s moment (i ∷ items) =
     ap (λ l. (bytes_if (m == n) (sent_by (step config s i moment))) ++ l) (to_by_items n m config (step config s i moment).state moment items)
     ∙ if_both (m == n) (sent_by (step config s i moment)) (replies config (step config s i moment).state items moment)
 
-to_more : (n : ℕ) (records : List Record) (r : Record) → sent_to n (records ++ r ∷ []) ≡ sent_to n records ++ (bytes_if (is_of n r.event) r.sent)
-to_more n [] r = append-nil (bytes_if (is_of n r.event) r.sent)
-to_more n (x ∷ records) r = ap (λ l. (bytes_if (is_of n x.event) x.sent) ++ l) (to_more n records r)
-    ∙ sym (append_assoc (bytes_if (is_of n x.event) x.sent) (sent_to n records) (bytes_if (is_of n r.event) r.sent))
+to_more : (n : ℕ) (records : List Record) (r : Record) → sent_to n (records ++ r ∷ []) ≡ sent_to n records ++ (bytes_if (is_event_of n r.event) r.sent)
+to_more n [] r = append-nil (bytes_if (is_event_of n r.event) r.sent)
+to_more n (x ∷ records) r = ap (λ l. (bytes_if (is_event_of n x.event) x.sent) ++ l) (to_more n records r)
+    ∙ sym (append_assoc (bytes_if (is_event_of n x.event) x.sent) (sent_to n records) (bytes_if (is_event_of n r.event) r.sent))
 
 serves_by : {config : Config} {reads : List Item → Place → Type 0} {s left : State} {moment : ℕ} {sent : List ℕ} {at : Place} {answer : Arrived} {v : Serves config reads s moment sent left at answer} {steps : List SteppedItem} (number : ℕ)
     → CalmServes number _ _ _ _ v steps → ((n : ℕ) → (bytes_if (number == n) sent) ≡ to_by n config s steps) × (left ≡ state_by config s steps)
@@ -69,7 +69,7 @@ arrives_by number (live v c) = serves_by number c
 arrives_by number shut_line = (λ n. sym (if_nil (number == n)), refl)
 
 happens_by : {config : Config} {w w' : World} {event : Event} {sent : List ℕ} {h : Happens config w event sent w'} {steps : List SteppedItem}
-    → Calm _ _ _ h steps → ((n : ℕ) → (bytes_if (is_of n event) sent) ≡ to_by n config w.state steps) × (w'.state ≡ state_by config w.state steps)
+    → Calm _ _ _ h steps → ((n : ℕ) → (bytes_if (is_event_of n event) sent) ≡ to_by n config w.state steps) × (w'.state ≡ state_by config w.state steps)
 unfolding to_by state_by
 happens_by (connect {n = m}) = (λ n. sym (if_nil (m == n)), refl)
 happens_by (close {n = m}) = (λ n. sym (if_nil (m == n)), refl)
@@ -84,7 +84,7 @@ run_by {config = config} {first = first} (more {records} {event} {sent} {w} {w'}
     let a = run_by c in
     let b = happens_by k in (
       λ n. to_more n records (record { event = event; sent = sent })
-          ∙ (ap (λ l. l ++ (bytes_if (is_of n event) sent)) (a.0 n)
+          ∙ (ap (λ l. l ++ (bytes_if (is_event_of n event) sent)) (a.0 n)
           ∙ (ap (λ l. to_by n config first steps ++ l) (b.0 n ∙ ap (λ s. to_by n config s next) a.1)
           ∙ sym (to_by_both n config first steps next))),
       b.1 ∙ (ap (λ s. state_by config s next) a.1 ∙ sym (state_by_both config first steps next)),

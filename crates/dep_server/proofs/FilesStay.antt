@@ -24,7 +24,7 @@ use Rattle.dep_exchange.specs.Records.{Record, World, Run}
 use Rattle.dep_server.specs.Moves.{Move, Made, Begun, moved, state_by, moves_of}
 use Rattle.dep_server.specs.Requests.{AnyRequest, step_of, ticked, left_by, IsAccepted, IsAcceptedFor}
 use Rattle.dep_server.specs.Runs.{AnyRun, RequestIn, as_it_came}
-use Rattle.dep_server.specs.Deposited.{IsTaken, object_of, number_of, StaysUntilTaken, IsDeposit, EntryStaysFrom}
+use Rattle.dep_server.specs.Deposited.{IsTaken, deposit_object, deposited_number, StaysUntilTaken, IsDeposit, EntryStaysFrom}
 use Rattle.dep_server.proofs.MovesLead.{over_both, run_leads, moved_sound, moves_sound}
 
 module _ (config : Config) (n f : ℕ) (file : File) where
@@ -139,7 +139,7 @@ module _ (q : AnyRequest) (t : Target) where
       ap (λ (r : Routed). (routed_step q.config found q.message r).state) a.named ∙ by_passed q.config found (operation_of q.message t) a.passed
 
   abbrev Made_of : Reference → ℕ → State → Type 0
-  Made_of reference i now = (file : File) × (file_at now (object_of q t) (number_of q i) ≡ Some file) × IsDepositedFrom found now reference file
+  Made_of reference i now = (file : File) × (file_at now (deposit_object q t) (deposited_number q i) ≡ Some file) × IsDepositedFrom found now reference file
 
   made_of : (i : ℕ) (reference : Reference) → IsSound q.state → IsDeposit q t i reference → Made_of reference i (left_by q)
   made_of i reference sound d =
@@ -157,8 +157,8 @@ stays_deposited r q t i reference sound d =
     let move : Move = Made (Request q.message) q.moment in
     let came : AnyRequest = as_it_came q in
     let made = made_of came t i reference (moves_sound config r.first q.before sound) d in
-    let n : ℕ = object_of came t in
-    let f : ℕ = number_of came i in
+    let n : ℕ = deposit_object came t in
+    let f : ℕ = deposited_number came i in
     let after : state_by config r.first (q.before ++ move ∷ []) ≡ left_by came = over_both config r.first q.before (move ∷ []) in
     record {
       file = made.0;

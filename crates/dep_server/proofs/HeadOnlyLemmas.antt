@@ -24,7 +24,7 @@ use Rattle.dep_decisions.specs.Rules.{access_refusal, behalf_rule, content_refus
 use Rattle.dep_decisions.specs.declared.operation.Operation.{Operation}
 use Rattle.dep_decisions.proofs.FoundInMaps.{unless-none}
 use Rattle.dep_decisions.proofs.ReadAlone.{reads_keep}
-use Rattle.dep_answers.specs.Answers.{Answer, ReplyContent, Document, PlainText, StoredContent, bytes_of, document_of, shown_file, stored_of, head_of}
+use Rattle.dep_answers.specs.Answers.{Answer, ReplyContent, Document, PlainText, StoredContent, bytes_of, document_of, file_reply, stored_of, head_of}
 use Rattle.dep_answers.specs.Bags.{BagEntry, bag_entries, payload_shown, shown_in_bag}
 use Rattle.dep_answers.specs.Replies.{front_text, stored_text, content_at, shown_answer, refused_answer}
 use Rattle.dep_answers.specs.Steps.{Stepped, answered_step, refused_step, accepted_answer, accepted_step, step_by, operation_step}
@@ -108,7 +108,7 @@ shows : (config : Config) (s : State) (resource : Resource) → is_shown resourc
 shows config s at.Service h e = (Document (service_document config), refl)
 shows config s (at.Object n) h e = there (λ (o : Object). Document (status_document config (object_view n o))) (finmap.get s.objects n) (unless-none _ why.NotFound e)
 shows config s (at.Metadata n) h e = there (λ (o : Object). Document (metadata_document config n o.metadata)) (finmap.get s.objects n) (unless-none _ why.NotFound e)
-shows config s (at.File n f) h e = there (shown_file n f) (file_at s n f) (unless-none _ why.NotFound e)
+shows config s (at.File n f) h e = there (file_reply n f) (file_at s n f) (unless-none _ why.NotFound e)
 shows config s (at.Upload u) h e =
     there (λ (upload : Upload). Document (upload_document config (upload_row u upload) (finmap.keys upload.segments))) (finmap.get s.uploads u) (upload_there _ _ e)
 shows config s (at.BagList n) h e = there (λ (o : Object). PlainText (list_text (bag_paths o))) (finmap.get s.objects n) (unless-none _ why.NotFound e)

@@ -7,7 +7,7 @@ use Rattle.dep_types.specs.declared.config.Config.{Config}
 use Rattle.dep_types.specs.declared.refusal.Refusal.{Refusal}
 use Rattle.dep_types.proofs.Kept.{get-insert_same, get-insert_other}
 use Rattle.dep_fields.specs.declared.kind.Kind.TheVariants as of
-use Rattle.dep_decisions.specs.Kinds.{kind_of}
+use Rattle.dep_decisions.specs.Kinds.{content_kind}
 use Rattle.dep_decisions.specs.Rules.{refusal}
 use Rattle.dep_decisions.specs.Effects.{effect, received_beside, with_segment}
 use Rattle.dep_decisions.specs.Laws.{posted_to}
@@ -55,7 +55,7 @@ module _ (u k : ℕ) (bytes : List ℕ) where
 
 -- ---- a segment that is accepted
 
-pub received_by : (config : Config) (s : State) (op : Operation) (u k : ℕ) → op.target ≡ posted_to u → kind_of op ≡ Some (of.Segment k)
+pub received_by : (config : Config) (s : State) (op : Operation) (u k : ℕ) → op.target ≡ posted_to u → content_kind op ≡ Some (of.Segment k)
     → refusal config s op ≡ None → HasSegment (effect config s op) u k op.content
 received_by config s op u k target kind accepted =
     let x = present config op u k target kind s accepted in
@@ -66,7 +66,7 @@ received_by config s op u k target kind accepted =
       received = stands_then x.0 k op.content (let_through config op u k target kind s x.0 accepted x.1) s;
     })
 
-accepted_by : (config : Config) (s : State) (op : Operation) (u k : ℕ) → op.target ≡ posted_to u → kind_of op ≡ Some (of.Segment k)
+accepted_by : (config : Config) (s : State) (op : Operation) (u k : ℕ) → op.target ≡ posted_to u → content_kind op ≡ Some (of.Segment k)
     → (o : Option Refusal) → refusal config s op ≡ o → o ≡ None → HasSegment (step_by config s op o).state u k op.content
 accepted_by config s op u k target kind None accepted e = received_by config s op u k target kind accepted
 accepted_by config s op u k target kind (Some r) accepted e = cc
@@ -74,7 +74,7 @@ accepted_by config s op u k target kind (Some r) accepted e = cc
 -- what is accepted as a segment stands in the state that the step leaves
 pub received_represents : (config : Config) (s : State) (m : Message) (moment u k : ℕ)
     → target m.head.method m.head.path ≡ To (posted_to u)
-    → kind_of (operation_of m (posted_to u)) ≡ Some (of.Segment k)
+    → content_kind (operation_of m (posted_to u)) ≡ Some (of.Segment k)
     → refusal config (tick config s moment) (operation_of m (posted_to u)) ≡ None
     → HasSegment (step config s (Request m) moment).state u k m.content
 unfolding step operation_step

@@ -9,7 +9,7 @@ use Rattle.dep_types.specs.State.{State}
 use Rattle.dep_types.specs.declared.config.Config.{Config}
 use Rattle.dep_head.specs.Head.{head_end}
 use Rattle.dep_message.specs.Places.{Place, Open, Shut}
-use Rattle.dep_message.specs.Stream.{Item, Spells, Reads, Waits}
+use Rattle.dep_message.specs.Stream.{Item, Spells, ReadsItems, Waits}
 use Rattle.dep_message.proofs.OneReading.{one_spelling}
 use Rattle.dep_message.proofs.Reading.{reads_more}
 use Rattle.dep_exchange.specs.Machine.{Serves}
@@ -104,7 +104,7 @@ served_accounts config stream piece left at s earlier items h r w =
       is_open = ap (option_map (λ (x : List ℕ). x ++ piece)) h.is_open;
       joined = ap (λ l. l ++ items) h.joined ∙ append_assoc h.earlier h.now items;
       closed = h.closed;
-      spells = record { reads = subst (λ l. Reads config.max_upload (Open false (stream ++ piece)) (l ++ items) at) same.0 r.3; waits = w };
+      spells = record { reads = subst (λ l. ReadsItems config.max_upload (Open false (stream ++ piece)) (l ++ items) at) same.0 r.3; waits = w };
     }
 
 line_accounts : (limit : ℕ) (stream : List ℕ) (at : Place) (s : Streams) (items : List Item) → Spelled limit stream at s items → Accounts limit (line_after stream at) s items

@@ -10,7 +10,7 @@ use Rattle.dep_types.proofs.Kept.{get-insert_same, kept-was}
 use Rattle.dep_types.proofs.TickLemmas.{get-unexpired}
 use Rattle.dep_types.proofs.TickSound.{keeps_sound}
 use Rattle.dep_fields.specs.declared.kind.Kind.TheVariants as of
-use Rattle.dep_decisions.specs.Kinds.{kind_of}
+use Rattle.dep_decisions.specs.Kinds.{content_kind}
 use Rattle.dep_decisions.specs.Rules.{refusal, segment_refusal}
 use Rattle.dep_decisions.specs.Effects.{effect, with_segment}
 use Rattle.dep_decisions.specs.Laws.{posted_to}
@@ -31,7 +31,7 @@ use Rattle.dep_exchange.specs.Machine.{operation_of, routed_step, step, starting
 use Rattle.dep_exchange.specs.Stops.{LeftByFailure, LeftByServing}
 use Rattle.dep_exchange.specs.Records.{Event, Record, Line, World, Arrives, at_live, at_shut_line, LeftByArrival, Happens, connects, closes, arrives, unknown, Run, begins, goes_on, stops, breaks}
 use Rattle.dep_exchange.specs.declared.arrived.Arrived.{Arrived}
-use Rattle.dep_server.specs.Acknowledged.{RunsThrough, HasSegment, HasStatus}
+use Rattle.dep_server.specs.Acknowledged.{RunsThrough, HasSegment, BeginsWithStatus}
 use Rattle.dep_server.specs.Requests.{IsAccepted}
 use Rattle.dep_server.specs.TakenAgain.{FailsAt, ArrivalFailsAt, EventFailsAt, EndsInWork, IsAcknowledged}
 use Rattle.dep_server.proofs.Acknowledging.{fields_text, front_begins, named_segment}
@@ -61,7 +61,7 @@ IsAcceptedStill config s m u = (later : ℕ) → is_some (map.get (tick config s
 
 -- ---- the reply
 
-status_first : (s : State) (clock : ℕ) (head_only ends : Bool) (a : Answer) → a.status ≡ 204 → HasStatus 204 (sent_by (answered_step s a clock head_only ends))
+status_first : (s : State) (clock : ℕ) (head_only ends : Bool) (a : Answer) → a.status ≡ 204 → BeginsWithStatus 204 (sent_by (answered_step s a clock head_only ends))
 status_first s clock head_only ends a status =
     let behind : List ℕ = fields_text (head_of a clock ends) ++ unless_head_only head_only (document_of a.content) in (
       behind ++ stored_text a head_only,
@@ -73,7 +73,7 @@ module _ (config : Config) (m : Message) (u : ℕ) where
   abbrev op : Operation
   op = operation_of m (posted_to u)
 
-  replied_by : (s : State) (o : Option Refusal) → o ≡ None → HasStatus 204 (sent_by (step_by config s op o))
+  replied_by : (s : State) (o : Option Refusal) → o ≡ None → BeginsWithStatus 204 (sent_by (step_by config s op o))
   unfolding accepted_answer
   replied_by s None e = status_first (effect config s op) s.clock (is_head Post) op.closes empty_answer refl
   replied_by s (Some r) e = cc e
@@ -83,7 +83,7 @@ module _ (config : Config) (m : Message) (u : ℕ) where
   unfolding step operation_step
   taken s moment named passed = record {
     accepted = record { named = named; passed = passed };
-    replied = subst (λ (r : Routed). HasStatus 204 (sent_by (routed_step config (tick config s moment) m r))) (sym named)
+    replied = subst (λ (r : Routed). BeginsWithStatus 204 (sent_by (routed_step config (tick config s moment) m r))) (sym named)
         (replied_by (tick config s moment) (refusal config (tick config s moment) op) passed);
   }
 
@@ -168,7 +168,7 @@ step_is config s m moment u accepted =
 one : (x y : Upload) (o : Option Upload) → o ≡ Some x → o ≡ Some y → y ≡ x
 one x y o a b = let same : Some y ≡ Some x = sym b ∙ a in cc same
 
-module _ (config : Config) (m : Message) (u k : ℕ) (kind : kind_of (operation_of m (posted_to u)) ≡ Some (of.Segment k)) where
+module _ (config : Config) (m : Message) (u k : ℕ) (kind : content_kind (operation_of m (posted_to u)) ≡ Some (of.Segment k)) where
   abbrev sent : Operation
   sent = operation_of m (posted_to u)
 
@@ -217,7 +217,7 @@ after_work config first records w r m moment u began in_work accepted later ther
 
 -- ---- at the end of any run
 
-module _ (config : Config) (m : Message) (u k : ℕ) (kind : kind_of (operation_of m (posted_to u)) ≡ Some (of.Segment k)) where
+module _ (config : Config) (m : Message) (u k : ℕ) (kind : content_kind (operation_of m (posted_to u)) ≡ Some (of.Segment k)) where
   abbrev asked_for : Operation
   asked_for = operation_of m (posted_to u)
 
@@ -254,7 +254,7 @@ good_kept : (k : ℕ) (bytes : List ℕ) → IsKept (λ (x : Upload). IsGood x k
 good_kept k bytes s j content x good = good
 
 -- where it is accepted, it is good at its upload
-good_there : (config : Config) (m : Message) (u k : ℕ) → kind_of (operation_of m (posted_to u)) ≡ Some (of.Segment k)
+good_there : (config : Config) (m : Message) (u k : ℕ) → content_kind (operation_of m (posted_to u)) ≡ Some (of.Segment k)
     → (s : State) (moment : ℕ) → IsSound s → refusal config (tick config s moment) (operation_of m (posted_to u)) ≡ None
     → (x : Upload) × (map.get s.uploads u ≡ Some x) × IsGood x k m.content
 good_there config m u k kind s moment sound passed =
@@ -266,7 +266,7 @@ good_there config m u k kind s moment sound passed =
 
 pub after_all : (config : Config) (first : State) (records : List Record) (w : World) (r : Run config first records w) (through : State) (m : Message) (moment u k : ℕ)
     → IsSound first → RunsThrough r through → IsAccepted config (tick config through moment) m (posted_to u)
-    → kind_of (operation_of m (posted_to u)) ≡ Some (of.Segment k)
+    → content_kind (operation_of m (posted_to u)) ≡ Some (of.Segment k)
     → ((bytes : List ℕ) → HasSegment w.state u k bytes → bytes ≡ m.content) → IsAcceptedStill config w.state m u
 after_all config first records w r through m moment u k sound t accepted kind alone later there =
     let good : Upload → Type 0 = λ x. IsGood x k m.content in

@@ -8,7 +8,7 @@ use Rattle.dep_message.specs.Places.{Place}
 use Rattle.dep_types.specs.declared.target.Target.{Target}
 use Rattle.dep_fields.specs.declared.kind.Kind.TheVariants.{Segment}
 use Rattle.dep_reply.specs.Head.{status_line}
-use Rattle.dep_decisions.specs.Kinds.{kind_of}
+use Rattle.dep_decisions.specs.Kinds.{content_kind}
 use Rattle.dep_message.specs.Stream.{Item, Fault, Continue, Request}
 use Rattle.dep_message.specs.declared.message.Message.{Message}
 use Rattle.dep_decisions.specs.Decisions.{decision}
@@ -86,13 +86,13 @@ abbrev pub IsGone : State → ℕ → Type 0
 IsGone s number = map.get s.uploads number ≡ None
 
 -- the bytes begin with the line of this status
-abbrev pub HasStatus : ℕ → List ℕ → Type 0
-HasStatus status sent = (behind : List ℕ) × (sent ≡ status_line status ++ behind)
+abbrev pub BeginsWithStatus : ℕ → List ℕ → Type 0
+BeginsWithStatus status sent = (behind : List ℕ) × (sent ≡ status_line status ++ behind)
 
 -- the request names a segment of the upload, which has its content there
 pub record IsReceived (s : State) (m : Message) (number : ℕ) : Type 0 where
   pub segment : ℕ
-  pub named : kind_of (operation_of m (posted_to number)) ≡ Some (Segment segment)
+  pub named : content_kind (operation_of m (posted_to number)) ≡ Some (Segment segment)
   pub represents : HasSegment s number segment m.content
 
 -- ---- why an upload goes

@@ -40,14 +40,14 @@ module _ {A : Type 0} (condition : A → Condition) where
 
   -- the record of an arrival, with the bytes that were sent for it; there is none where no connection has
   -- the number
-  abbrev pub records_of : (old new : Hub A) (number : ℕ) (piece : List ℕ) (moment : ℕ) (answer : Arrived)
+  abbrev pub arrival_records : (old new : Hub A) (number : ℕ) (piece : List ℕ) (moment : ℕ) (answer : Arrived)
       → Comes old new number piece moment answer → List Record
-  records_of old new number piece moment NoSuch c = []
-  records_of old new number piece moment StaysOpen c =
+  arrival_records old new number piece moment NoSuch c = []
+  arrival_records old new number piece moment StaysOpen c =
       record { event = Arrive number piece moment; sent = c.comes.sent } ∷ []
-  records_of old new number piece moment Closed c =
+  arrival_records old new number piece moment Closed c =
       record { event = Arrive number piece moment; sent = c.comes.sent } ∷ []
-  records_of old new number piece moment Cut c =
+  arrival_records old new number piece moment Cut c =
       record { event = Arrive number piece moment; sent = c.comes.sent } ∷ []
 
   -- one call, with the records that it adds
@@ -59,7 +59,7 @@ module _ {A : Type 0} (condition : A → Condition) where
         → Call old new (record { event = Close number; sent = [] } ∷ [])
     arrives : (number : ℕ) (piece : List ℕ) (moment : ℕ) (answer : Arrived)
         (c : Comes old new number piece moment answer)
-        → Call old new (records_of old new number piece moment answer c)
+        → Call old new (arrival_records old new number piece moment answer c)
 
   -- one call after another, each on what the one before left
   pub data Calls (first : Hub A) : List Record → Hub A → Type 0 where

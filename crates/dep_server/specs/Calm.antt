@@ -78,18 +78,18 @@ pub record BeginAlike (a b : AnyCalmRun) : Type 0 where
   pub first : a.run.first ≡ b.run.first
 
 -- an event of the connection of this number
-abbrev pub is_of : ℕ → Event → Bool
-is_of n (Connect m) = m == n
-is_of n (Arrive m piece moment) = m == n
-is_of n (Close m) = m == n
-is_of n Stop = false
+abbrev pub is_event_of : ℕ → Event → Bool
+is_event_of n (Connect m) = m == n
+is_event_of n (Arrive m piece moment) = m == n
+is_event_of n (Close m) = m == n
+is_event_of n Stop = false
 
 abbrev pub bytes_if : Bool → List ℕ → List ℕ
 bytes_if b bytes = if b then bytes else []
 
 -- what was sent to one connection
 abbrev pub sent_to : ℕ → List Record → List ℕ
-sent_to n records = flat_map (λ r. bytes_if (is_of n r.event) r.sent) records
+sent_to n records = flat_map (λ r. bytes_if (is_event_of n r.event) r.sent) records
 
 -- they send the same bytes, each connection its own, and end in the same state
 pub record EndAlike (a b : AnyCalmRun) : Type 0 where

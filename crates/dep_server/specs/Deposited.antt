@@ -28,12 +28,12 @@ pub record IsTaken (config : Config) (s : State) (moves : List Move)
   pub takes : IsTrue (takes_file object file target)
 
 -- the object that a deposit at this resource adds its files to
-abbrev pub object_of : AnyRequest → Target → ℕ
-object_of q t = deposited_object (ticked (step_of q)) t.resource
+abbrev pub deposit_object : AnyRequest → Target → ℕ
+deposit_object q t = deposited_object (ticked (step_of q)) t.resource
 
 -- the number of the file that it makes of its entry at this place
-abbrev pub number_of : AnyRequest → (place : ℕ) → ℕ
-number_of q place = (ticked (step_of q)).next.file + place
+abbrev pub deposited_number : AnyRequest → (place : ℕ) → ℕ
+deposited_number q place = (ticked (step_of q)).next.file + place
 
 -- the file is there at the last, or was replaced or deleted by one of these moves
 abbrev pub StaysUntilTaken : Config → State → List Move → (last : State) → (object number : ℕ)
@@ -60,10 +60,10 @@ pub record IsDeposit (q : AnyRequest) (t : Target) (place : ℕ) (reference : Re
 pub record StaysDeposited (q : AnyRequest) (t : Target) (place : ℕ) (reference : Reference)
     (after : List Move) (last : State) : Type 0 where
   pub file : File
-  pub there : file_at (left_by q) (object_of q t) (number_of q place) ≡ Some file
+  pub there : file_at (left_by q) (deposit_object q t) (deposited_number q place) ≡ Some file
   pub deposited : IsDepositedFrom (ticked (step_of q)) (left_by q) reference file
   pub stays :
-      StaysUntilTaken q.config (left_by q) after last (object_of q t) (number_of q place) file
+      StaysUntilTaken q.config (left_by q) after last (deposit_object q t) (deposited_number q place) file
 
 -- it does so from this step of a run on
 abbrev pub EntryStaysFrom : {r : AnyRun} → RequestIn r → Target → (place : ℕ) → Reference → Type 0

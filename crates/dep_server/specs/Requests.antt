@@ -8,7 +8,7 @@ use Rattle.dep_router.specs.Targets.{target}
 use Rattle.dep_router.specs.declared.routed.Routed.TheVariants.{To}
 use Rattle.dep_message.specs.declared.message.Message.{Message}
 use Rattle.dep_message.specs.Stream.{Item, Request}
-use Rattle.dep_decisions.specs.Kinds.{kind_of}
+use Rattle.dep_decisions.specs.Kinds.{content_kind}
 use Rattle.dep_decisions.specs.Laws.{posted_to}
 use Rattle.dep_decisions.specs.Rules.{refusal}
 use Rattle.dep_answers.specs.Steps.{Stepped, sent_by}
@@ -69,4 +69,4 @@ IsPostedTo m u = target m.head.method m.head.path ≡ To (posted_to u)
 -- it is accepted as this segment of this upload
 pub record IsAcceptedSegment (q : AnyRequest) (upload segment : ℕ) : Type 0 where
   pub accepted : IsPostAccepted q upload
-  pub named : kind_of (operation_of q.message (posted_to upload)) ≡ Some (Segment segment)
+  pub named : content_kind (operation_of q.message (posted_to upload)) ≡ Some (Segment segment)

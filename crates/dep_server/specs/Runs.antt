@@ -18,8 +18,8 @@ pub record AnyRun : Type 0 where
   pub run : Run config first records last
 
 -- it may go on by these records to this world
-abbrev pub GoesOn : AnyRun → List Record → World → Type 0
-GoesOn r more w = Run r.config r.first (r.records ++ more) w
+abbrev pub ContinuesTo : AnyRun → List Record → World → Type 0
+ContinuesTo r more w = Run r.config r.first (r.records ++ more) w
 
 -- the machine answers these turns of a connection that is opened at its end, and is in this world
 -- then

@@ -9,7 +9,7 @@ use Rattle.dep_message.specs.declared.message.Message.{Message}
 use Rattle.dep_exchange.specs.Machine.{state_after, Serves, serves_all, step_fails, gives_up}
 use Rattle.dep_exchange.specs.Records.{Event, Record, Line, World, Arrives, at_live, at_shut_line, Happens, connects, closes, arrives, unknown, Run, begins, goes_on, stops, breaks}
 use Rattle.dep_exchange.specs.declared.arrived.Arrived.{Arrived}
-use Rattle.dep_server.specs.Acknowledged.{WasAt, HasStatus}
+use Rattle.dep_server.specs.Acknowledged.{WasAt, BeginsWithStatus}
 use Rattle.dep_server.specs.Requests.{AnyRequest, reply_to, IsPostAccepted, IsAcceptedSegment}
 use Rattle.dep_server.specs.Runs.{AnyRun, request_at}
 
@@ -69,7 +69,7 @@ pub record CouldTake (r : AnyRun) (m : Message) (upload segment : ℕ) : Type 0 
 -- it is accepted as a POST to this upload, and answered 204
 pub record IsAcknowledged (q : AnyRequest) (number : ℕ) : Type 0 where
   pub accepted : IsPostAccepted q number
-  pub replied : HasStatus 204 (reply_to q)
+  pub replied : BeginsWithStatus 204 (reply_to q)
 
 -- at the end of a run that is so at each moment at which the upload is there
 abbrev pub IsTakenAgain : AnyRun → Message → (number : ℕ) → Type 0

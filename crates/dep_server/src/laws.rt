@@ -14,7 +14,7 @@ ghost use Rattle.dep_connection.specs.Turns.{Turn, records_of, with_closed, IsEn
 ghost use Rattle.dep_hub.specs.Representing.{IsClean};
 ghost use Rattle.dep_hub.specs.declared.hub.Hub.{Hub};
 ghost use Rattle.dep_server.specs.Requests.{AnyStep, ticked, made, AnyRequest, left_by, reply_to, IsPostAccepted, IsPostedTo, IsAcceptedSegment};
-ghost use Rattle.dep_server.specs.Runs.{AnyRun, GoesOn, TalksThen, PointOf, state_at, RequestIn, as_it_came};
+ghost use Rattle.dep_server.specs.Runs.{AnyRun, ContinuesTo, TalksThen, PointOf, state_at, RequestIn, as_it_came};
 ghost use Rattle.dep_server.specs.Talks.{EndedTalk};
 ghost use Rattle.dep_server.specs.Calls.{Calls, RepresentsMore};
 ghost use Rattle.dep_server.specs.Calm.{AnyCalmRun, BeginAlike, EndAlike};
@@ -23,7 +23,7 @@ ghost use Rattle.dep_server.specs.HeadOnly.{step_as, IsWithoutBody};
 ghost use Rattle.dep_server.specs.ReplyHeads.{IsUnsplit};
 ghost use Rattle.dep_server.specs.Refused.{refusal_in, IsRefused};
 ghost use Rattle.dep_server.specs.Moves.{moves_of, state_by};
-ghost use Rattle.dep_server.specs.Acknowledged.{WasAt, HasSegment, HasNoOther, IsGone, HasStatus, IsReceived, SegmentStaysFrom};
+ghost use Rattle.dep_server.specs.Acknowledged.{WasAt, HasSegment, HasNoOther, IsGone, BeginsWithStatus, IsReceived, SegmentStaysFrom};
 ghost use Rattle.dep_server.specs.TakenAgain.{RequestInWork, as_begun, CouldTake, IsTakenAgain};
 ghost use Rattle.dep_server.specs.Deposited.{FileStaysFrom, IsDeposit, EntryStaysFrom};
 
@@ -110,7 +110,7 @@ pub fn accepted_segment_stands()
 /// its content. So what stays (`acknowledged_stays`) begins with the reply that was sent.
 pub fn replied_segment_stands()
     ensures { (request : AnyRequest) (u : ℕ) → IsPostedTo request.message u
-        → HasStatus 204 (reply_to request) → IsReceived (left_by request) request.message u }
+        → BeginsWithStatus 204 (reply_to request) → IsReceived (left_by request) request.message u }
 {}
 
 /// Once it stands there and its reply was sent it stays, whatever happens and also where a stop
@@ -174,7 +174,7 @@ pub fn deposited_files_stay()
 pub fn turns_make_a_run()
     ensures { (run : AnyRun) (number : ℕ) (turns : List Turn) (talked : World)
         → TalksThen run number turns talked
-        → GoesOn run (records_of number turns) (with_closed number talked) }
+        → ContinuesTo run (records_of number turns) (with_closed number talked) }
 {}
 
 /// A turn that does not leave its connection open is the last one, and shows why the connection is served no

@@ -48,8 +48,8 @@ abbrev pub is_past : (since second : ℕ) → Limits → Bool
 is_past since second limits = nat_lt limits.idle_seconds (second - since)
 
 -- it was silent for longer than it may be
-abbrev pub is_silent : ConnectionState → (second : ℕ) → Limits → Bool
-is_silent c second limits = not c.has_moved && is_past c.since second limits
+abbrev pub has_been_silent : ConnectionState → (second : ℕ) → Limits → Bool
+has_been_silent c second limits = not c.has_moved && is_past c.since second limits
 
 -- a request or a reply of it is under way, and fewer bytes moved in an idle time than have to
 abbrev pub is_slow : ConnectionState → (second : ℕ) → Limits → Bool
@@ -62,7 +62,7 @@ closing_of p silent slow = if silent then Some ends.Silent else if slow then Som
 
 -- why the connection is closed at a second, if it is
 abbrev pub closing : ConnectionState → (second : ℕ) → Limits → Option Closing
-closing c second limits = closing_of c.phase (is_silent c second limits) (is_slow c second limits)
+closing c second limits = closing_of c.phase (has_been_silent c second limits) (is_slow c second limits)
 
 -- a request or a reply of it is under way, and it isn't for others that its request was kept back
 abbrev pub is_under_way : ConnectionState → (owes : Bool) → Bool

@@ -12,7 +12,7 @@ pub data Note : Type 0 where
   LetGo : (connection : ℕ) → (reason : Closing) → Note
 
 -- what is shown grows by these, where it is shown
-abbrev pub Grows : {X : Type 0} → Option (List X) → Option (List X) → List X → Type 0
-Grows None new more = Unit {0}
-Grows (Some xs) None more = ⊥
-Grows (Some xs) (Some ys) more = ys ≡ xs ++ more
+abbrev pub GrowsWhereShown : {X : Type 0} → Option (List X) → Option (List X) → List X → Type 0
+GrowsWhereShown None new more = Unit {0}
+GrowsWhereShown (Some xs) None more = ⊥
+GrowsWhereShown (Some xs) (Some ys) more = ys ≡ xs ++ more

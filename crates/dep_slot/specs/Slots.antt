@@ -3,7 +3,7 @@ use Rattle.std.specs.Prelude.{◌≡◌, ◌≢◌, ◌⊎◌, ◌<◌, ◌≤�
 use Rattle.std.specs.Io.KnownBytes.{Appends, Keeps, Consumes, IsAtEnd}
 use Rattle.dep_types.specs.Conditions.{Condition}
 use Rattle.dep_exchange.specs.Records.{Line}
-use Rattle.dep_exchange.specs.Nexts.{arrived_by}
+use Rattle.dep_exchange.specs.Nexts.{arrived_after}
 use Rattle.dep_hub.specs.Numbers.{most_read}
 use Rattle.dep_hub.specs.Representing.{IsClean, IsHonest, intake_of}
 use Rattle.dep_hub.specs.Holding.{KeepsHolding, AnswersOver, IsNext, IsRefused, with_held}
@@ -210,7 +210,7 @@ module _ {A R K S : Type 0} (condition : A → Condition) (unread : R → Option
     pub appends : Appends (reported taken held before.wire) (reported taken held after.wire) now
     pub answers : AnswersOver condition (reported taken held before.wire)
         (with_more (reported taken held after.wire) more) before.wire.failures after.wire.failures
-        old new before.connection (λ kept. kept) moment (arrived_by next) (IsNext next)
+        old new before.connection (λ kept. kept) moment (arrived_after next) (IsNext next)
     pub owes : Owes condition new before.connection (bytes_later more)
     pub paid : is_unsent (behind_at old.connections.items before.connection) ≡ false
     pub free : NextIsFree old before.connection

@@ -1,6 +1,6 @@
 //! What is told of each connection, for a log of them.
 ghost use Rattle.std.specs.Prelude.{◌≡◌, List, [], ◌∷◌, Option, None};
-ghost use Rattle.dep_slot.specs.Notes.{Note, LetIn, Rejected, LetGo, Grows};
+ghost use Rattle.dep_slot.specs.Notes.{Note, LetIn, Rejected, LetGo, GrowsWhereShown};
 
 use dep_hub::{AccessLog, ConnId, Next, SentOn};
 use std::net::IpAddr;
@@ -50,12 +50,12 @@ pub trait HostLog {
 
     /// A client was let in.
     fn opened(&mut self, connection: ConnId, address: IpAddr)
-        ensures noted { Grows (notes self.old) (notes self.new)
+        ensures noted { GrowsWhereShown (notes self.old) (notes self.new)
             (LetIn connection address ∷ []) };
 
     /// A client was rejected.
     fn refused(&mut self, address: IpAddr, refusal: Rejection)
-        ensures noted { Grows (notes self.old) (notes self.new)
+        ensures noted { GrowsWhereShown (notes self.old) (notes self.new)
             (Rejected address refusal ∷ []) };
 
     /// The next item of a connection is answered, where one is complete. None may be.
@@ -85,7 +85,7 @@ pub trait HostLog {
 
     /// A connection was closed, of which so many bytes were read, and so many taken by its socket.
     fn closed(&mut self, connection: ConnId, address: IpAddr, closing: Closing, bytes: Bytes)
-        ensures noted { Grows (notes self.old) (notes self.new)
+        ensures noted { GrowsWhereShown (notes self.old) (notes self.new)
             (LetGo connection closing ∷ []) };
 
     /// Nothing can go on at once: what it was told may be written now.

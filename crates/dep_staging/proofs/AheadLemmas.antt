@@ -23,7 +23,7 @@ use Rattle.dep_row_maps.specs.Stored.{blocks_of}
 use Rattle.dep_row_maps.proofs.Whole.{segments_there}
 use Rattle.dep_staging.specs.Comparing.{stored_bytes}
 use Rattle.dep_staging.specs.Hashing.{AreDigestsOf}
-use Rattle.dep_staging.specs.HashedAhead.{bytes_of, bytes_from, first_blocks, WasReceived, HasGoneOn, HasHashed, IsFresh, IsRunning}
+use Rattle.dep_staging.specs.HashedAhead.{segment_bytes, segment_bytes_from, first_blocks, WasReceived, HasGoneOn, HasHashed, IsFresh, IsRunning}
 use Rattle.dep_staging.specs.declared.running.RunningHash.{RunningHash}
 use Rattle.dep_staging.proofs.StoredBlocks.{got_by, past_by, within_by}
 
@@ -51,7 +51,7 @@ unfolding blocks_of
 no_block i = refl
 
 -- a segment that has a block was received
-has_come : (segments : Numbered (List ℕ)) (k i : ℕ) (block : List ℕ) → slice_get (blocks_of (bytes_of segments k)) i ≡ Some block → WasReceived segments k
+has_come : (segments : Numbered (List ℕ)) (k i : ℕ) (block : List ℕ) → slice_get (blocks_of (segment_bytes segments k)) i ≡ Some block → WasReceived segments k
 has_come segments k i block is = go (finmap.get segments k) refl
   where
     go : (o : Option (List ℕ)) → finmap.get segments k ≡ o → WasReceived segments k
@@ -60,14 +60,14 @@ has_come segments k i block is = go (finmap.get segments k) refl
 
 module _ (segments : Numbered (List ℕ)) (was now : RunningHash) (h : HasHashed segments was) where
   -- one block more
-  pub block_more : (block : List ℕ) → slice_get (blocks_of (bytes_of segments (was.segments + 1))) was.blocks ≡ Some block
+  pub block_more : (block : List ℕ) → slice_get (blocks_of (segment_bytes segments (was.segments + 1))) was.blocks ≡ Some block
       → ((message : List ℕ) → Holds was.hasher message → Holds now.hasher (message ++ block)) → now.segments ≡ was.segments → now.blocks ≡ was.blocks + 1 → HasHashed segments now
   block_more block is grows same next =
-      let bytes = bytes_of segments (was.segments + 1) in
-      let front = bytes_from segments 1 was.segments in
+      let bytes = segment_bytes segments (was.segments + 1) in
+      let front = segment_bytes_from segments 1 was.segments in
       let more = one_block_more bytes was.blocks block (within_by (blocks_of bytes) was.blocks block is) (sym (got_by (blocks_of bytes) was.blocks block [] is)) in
-      let whole : front ++ (first_blocks was.blocks bytes ++ block) ≡ bytes_from segments 1 now.segments ++ first_blocks now.blocks (bytes_of segments (now.segments + 1)) =
-      ap (λ l. front ++ l) more ∙ ap (λ n. front ++ first_blocks n bytes) (sym next) ∙ ap (λ n. bytes_from segments 1 n ++ first_blocks now.blocks (bytes_of segments (n + 1))) (sym same) in
+      let whole : front ++ (first_blocks was.blocks bytes ++ block) ≡ segment_bytes_from segments 1 now.segments ++ first_blocks now.blocks (segment_bytes segments (now.segments + 1)) =
+      ap (λ l. front ++ l) more ∙ ap (λ n. front ++ first_blocks n bytes) (sym next) ∙ ap (λ n. segment_bytes_from segments 1 n ++ first_blocks now.blocks (segment_bytes segments (n + 1))) (sym same) in
       record {
         holds = subst (Holds now.hasher) (append_assoc front (first_blocks was.blocks bytes) block ∙ whole) (grows _ h.holds);
         whole = λ k low high. h.whole k low (omega (arith, high, same));
@@ -75,17 +75,17 @@ module _ (segments : Numbered (List ℕ)) (was now : RunningHash) (h : HasHashed
       }
 
   -- the segment has no more
-  pub segment_done : slice_get (blocks_of (bytes_of segments (was.segments + 1))) was.blocks ≡ None → was.blocks ≢ 0
+  pub segment_done : slice_get (blocks_of (segment_bytes segments (was.segments + 1))) was.blocks ≡ None → was.blocks ≢ 0
       → now.hasher ≡ was.hasher → now.segments ≡ was.segments + 1 → now.blocks ≡ 0 → HasHashed segments now
   segment_done none some kept next over =
-      let bytes = bytes_of segments (was.segments + 1) in
-      let front = bytes_from segments 1 was.segments in
+      let bytes = segment_bytes segments (was.segments + 1) in
+      let front = segment_bytes_from segments 1 was.segments in
       let all = all_blocks bytes was.blocks (past_by (blocks_of bytes) was.blocks none) in
-      let joined : bytes_from segments 1 (was.segments + 1) ≡ front ++ bytes = one_segment_more (bytes_of segments) 1 was.segments ∙ ap (λ k. front ++ bytes_of segments k) (omega arith) in
-      let whole : front ++ first_blocks was.blocks bytes ≡ bytes_from segments 1 now.segments ++ first_blocks now.blocks (bytes_of segments (now.segments + 1)) =
-      ap (λ l. front ++ l) all ∙ sym joined ∙ ap (bytes_from segments 1) (sym next) ∙ sym (append-nil (bytes_from segments 1 now.segments)) ∙ ap (λ n. bytes_from segments 1 now.segments ++ first_blocks n (bytes_of segments (now.segments + 1))) (sym over) in
+      let joined : segment_bytes_from segments 1 (was.segments + 1) ≡ front ++ bytes = one_segment_more (segment_bytes segments) 1 was.segments ∙ ap (λ k. front ++ segment_bytes segments k) (omega arith) in
+      let whole : front ++ first_blocks was.blocks bytes ≡ segment_bytes_from segments 1 now.segments ++ first_blocks now.blocks (segment_bytes segments (now.segments + 1)) =
+      ap (λ l. front ++ l) all ∙ sym joined ∙ ap (segment_bytes_from segments 1) (sym next) ∙ sym (append-nil (segment_bytes_from segments 1 now.segments)) ∙ ap (λ n. segment_bytes_from segments 1 now.segments ++ first_blocks n (segment_bytes segments (now.segments + 1))) (sym over) in
       record {
-        holds = subst (λ x. Holds x (bytes_from segments 1 now.segments ++ first_blocks now.blocks (bytes_of segments (now.segments + 1)))) (sym kept) (subst (Holds was.hasher) whole h.holds);
+        holds = subst (λ x. Holds x (segment_bytes_from segments 1 now.segments ++ first_blocks now.blocks (segment_bytes segments (now.segments + 1)))) (sym kept) (subst (Holds was.hasher) whole h.holds);
         whole = λ k low high. reached k low (cases_lt was.segments k) (omega (arith, high, next));
         begun = λ begun. absurd (begun over);
       }
@@ -103,13 +103,13 @@ still_hashed before after run stay h = record {
   begun = λ some. let it = h.begun some in (it.0, stay _ it.0 it.1);
 }
   where
-    kept : (k : ℕ) → WasReceived before k → bytes_of before k ≡ bytes_of after k
+    kept : (k : ℕ) → WasReceived before k → segment_bytes before k ≡ segment_bytes after k
     kept k it = ap (λ o. unwrap_or o []) (it.1 ∙ sym (stay k it.0 it.1))
 
-    front : bytes_from before 1 run.segments ≡ bytes_from after 1 run.segments
-    front = same_from (bytes_of before) (bytes_of after) 1 run.segments (λ k low high. kept k (h.whole k low (omega (arith, high))))
+    front : segment_bytes_from before 1 run.segments ≡ segment_bytes_from after 1 run.segments
+    front = same_from (segment_bytes before) (segment_bytes after) 1 run.segments (λ k low high. kept k (h.whole k low (omega (arith, high))))
 
-    part : (n : ℕ) → run.blocks ≡ n → first_blocks n (bytes_of before (run.segments + 1)) ≡ first_blocks n (bytes_of after (run.segments + 1))
+    part : (n : ℕ) → run.blocks ≡ n → first_blocks n (segment_bytes before (run.segments + 1)) ≡ first_blocks n (segment_bytes after (run.segments + 1))
     part zero is = refl
     part (suc n) is = ap (first_blocks (suc n)) (kept (run.segments + 1) (h.begun (λ none. let no = sym is ∙ none in cc no)))
 
@@ -118,7 +118,7 @@ still_hashed before after run stay h = record {
 -- nothing of an upload is hashed at first
 pub nothing_hashed : (segments : Numbered (List ℕ)) (run : RunningHash) → IsFresh run → HasHashed segments run
 nothing_hashed segments run fresh = record {
-  holds = subst (Holds run.hasher) (sym (λ i. bytes_from segments 1 (fresh.segments i) ++ first_blocks (fresh.blocks i) (bytes_of segments (run.segments + 1)))) fresh.holds;
+  holds = subst (Holds run.hasher) (sym (λ i. segment_bytes_from segments 1 (fresh.segments i) ++ first_blocks (fresh.blocks i) (segment_bytes segments (run.segments + 1)))) fresh.holds;
   whole = λ k low high. let none = fresh.segments in absurd (omega (arith, low, high, none));
   begun = λ some. absurd (some fresh.blocks);
 }
@@ -128,8 +128,8 @@ running_at s run it (inl fresh) there = nothing_hashed it.segments run fresh
 running_at s run it (inr begun) there = begun.hashed it there
 
 module _ (s : State) (sound : IsSound s) (was now : RunningHash) (running : IsRunning s was) (same : now.upload ≡ was.upload) where
-  its_bytes : (it : Upload) (k : ℕ) → finmap.get s.uploads was.upload ≡ Some it → stored_bytes s was.upload k ≡ bytes_of it.segments k
-  its_bytes it k there = ap (λ m. bytes_of m k) (segments_there s.uploads was.upload it there)
+  its_bytes : (it : Upload) (k : ℕ) → finmap.get s.uploads was.upload ≡ Some it → stored_bytes s was.upload k ≡ segment_bytes it.segments k
+  its_bytes it k there = ap (λ m. segment_bytes m k) (segments_there s.uploads was.upload it there)
 
   hashed_now : ((it : Upload) → finmap.get s.uploads was.upload ≡ Some it → HasHashed it.segments now) → (it : Upload) → finmap.get s.uploads now.upload ≡ Some it → HasHashed it.segments now
   hashed_now hashed it there = hashed it (ap (finmap.get s.uploads) (sym same) ∙ there)
@@ -173,7 +173,7 @@ no_first_blocks (suc n) = refl
 -- all its segments were hashed
 pub whole_hashed : (it : Upload) (run : RunningHash) → HasSegmentsWithin it → HasHashed it.segments run → run.segments ≡ it.count → Holds run.hasher (assembled it)
 whole_hashed it run within h all =
-    subst (Holds run.hasher) (ap (λ l. bytes_from it.segments 1 run.segments ++ l) (behind (finmap.get it.segments (run.segments + 1)) refl) ∙ append-nil (bytes_from it.segments 1 run.segments) ∙ ap (bytes_from it.segments 1) all) h.holds
+    subst (Holds run.hasher) (ap (λ l. segment_bytes_from it.segments 1 run.segments ++ l) (behind (finmap.get it.segments (run.segments + 1)) refl) ∙ append-nil (segment_bytes_from it.segments 1 run.segments) ∙ ap (segment_bytes_from it.segments 1) all) h.holds
   where
     behind : (o : Option (List ℕ)) → finmap.get it.segments (run.segments + 1) ≡ o → first_blocks run.blocks (unwrap_or o []) ≡ []
     behind None none = no_first_blocks run.blocks

@@ -3,7 +3,7 @@ use Rattle.std.specs.Prelude.{◌≡◌, ℕ, List, length, Some, None}
 use Rattle.std.specs.FinMap as map
 use Rattle.sha2.specs.Sha512.{sha512}
 use Rattle.sqlite.specs.State as db
-use Rattle.dep_types.specs.State.{State, Object, File, Upload, tick}
+use Rattle.dep_types.specs.State.{State, Object, File, Upload, tick, with_upload}
 use Rattle.dep_types.specs.Rows.{upload_row, file_row}
 use Rattle.dep_types.specs.Uploads.{assembled}
 use Rattle.dep_types.specs.declared.config.Config.{Config}
@@ -12,7 +12,6 @@ use Rattle.dep_types.specs.declared.rows.UploadRow.{UploadRow}
 use Rattle.dep_tables.specs.declared.segments.SegmentRow.{SegmentRow}
 use Rattle.dep_row_maps.specs.Clauses.{SeesState}
 use Rattle.dep_row_maps.specs.Stored.{segment_row}
-use Rattle.dep_row_maps.specs.TablesAre.{with_upload}
 use Rattle.dep_staging.specs.Assembling.{HasItsSegments, deposited}
 
 module _ (row : UploadRow) where
@@ -28,8 +27,8 @@ module _ (row : UploadRow) where
       → becomes (with_upload s row.upload it)
 
   -- the same where the upload gets a segment that it lacked, which is this one
-  abbrev pub Receives : SegmentRow → (bytes : List ℕ) → State → (becomes : State → Type 0) → Type 0
-  Receives segment bytes s becomes = (was it : Upload) → map.get s.uploads row.upload ≡ Some was
+  abbrev pub ReceivesSegment : SegmentRow → (bytes : List ℕ) → State → (becomes : State → Type 0) → Type 0
+  ReceivesSegment segment bytes s becomes = (was it : Upload) → map.get s.uploads row.upload ≡ Some was
       → map.get was.segments segment.number ≡ None → row ≡ upload_row row.upload it
       → segment ≡ segment_row row.upload segment.number (length bytes)
       → it.segments ≡ map.insert was.segments segment.number bytes → it.sha512 ≡ was.sha512

@@ -13,12 +13,12 @@ use Rattle.dep_staging.specs.declared.running.RunningHash.{RunningHash}
 use Rattle.dep_staging.specs.declared.running.RunningHashes.{RunningHashes}
 
 -- the bytes of a segment, none where it was not received
-abbrev pub bytes_of : Numbered (List ℕ) → (number : ℕ) → List ℕ
-bytes_of segments k = unwrap_or (map.get segments k) []
+abbrev pub segment_bytes : Numbered (List ℕ) → (number : ℕ) → List ℕ
+segment_bytes segments k = unwrap_or (map.get segments k) []
 
 -- those of so many segments from this number on
-abbrev pub bytes_from : Numbered (List ℕ) → (first count : ℕ) → List ℕ
-bytes_from segments first count = flat_map (bytes_of segments) (range_with_len first count)
+abbrev pub segment_bytes_from : Numbered (List ℕ) → (first count : ℕ) → List ℕ
+segment_bytes_from segments first count = flat_map (segment_bytes segments) (range_with_len first count)
 
 -- the first blocks of a content
 abbrev pub first_blocks : (count : ℕ) → List ℕ → List ℕ
@@ -31,7 +31,7 @@ WasReceived segments k = (bytes : List ℕ) × (map.get segments k ≡ Some byte
 -- just its first segments were hashed, each of which was received, and the first blocks of the next one
 pub record HasHashed (segments : Numbered (List ℕ)) (run : RunningHash) : Type 0 where
   pub holds : Holds run.hasher
-      (bytes_from segments 1 run.segments ++ first_blocks run.blocks (bytes_of segments (run.segments + 1)))
+      (segment_bytes_from segments 1 run.segments ++ first_blocks run.blocks (segment_bytes segments (run.segments + 1)))
   pub whole : (k : ℕ) → 1 ≤ k → k ≤ run.segments → WasReceived segments k
   pub begun : run.blocks ≢ 0 → WasReceived segments (run.segments + 1)
 

@@ -53,8 +53,8 @@ module _ (t : Tables) (s : State) (file : ℕ) where
   IsReadBy h (Some size) all = (0 < size) × IsCutBy size (h.common.parts (owner.File file)) all
 
   -- what was read grows
-  abbrev pub Grows : (size : Option ℕ) → (start : ℕ) → (old new : Vec ℕ) → (some : Bool) → Type 0
-  Grows size start old new some = (h : TablesAre t s) (all : List ℕ) → IsReadBy h size all
+  abbrev pub GrowsAsRead : (size : Option ℕ) → (start : ℕ) → (old new : Vec ℕ) → (some : Bool) → Type 0
+  GrowsAsRead size start old new some = (h : TablesAre t s) (all : List ℕ) → IsReadBy h size all
       → GrowsBy all start old.items new.items some
 
   -- the next bytes of it

@@ -3,7 +3,7 @@
 ghost use Rattle.std.specs.Prelude.{◌≡◌, ◌+◌, ◌*◌, IfOk, IfSome};
 ghost use Rattle.dep_tables.specs.Tables.{tables_of};
 ghost use Rattle.dep_row_maps.specs.Clauses.{MayReadOver, ReadsMaps};
-ghost use Rattle.dep_staging.specs.NextBytes.{AppendsBehind, Counts, CountsTo, Fronts, Grows, IsNextIn, IsAtByte};
+ghost use Rattle.dep_staging.specs.NextBytes.{AppendsBehind, Counts, CountsTo, Fronts, GrowsAsRead, IsNextIn, IsAtByte};
 
 use crate::blocks::{FIRST_PART, file_block, last_place};
 use dep_files::BLOCK_SIZE;
@@ -63,7 +63,7 @@ fn append_next<T: Statements>(
     bytes: &mut Vec<u8>,
 ) -> Result<bool, StoreFault>
     ensures does { ReadsMaps T.lenders T.state tx.old tx.new result
-        (λ s. Grows (tables_of (T.state tx.old)) s file size start bytes.old bytes.new) }
+        (λ s. GrowsAsRead (tables_of (T.state tx.old)) s file size start bytes.old bytes.new) }
 {
     let Some(byte) = byte_behind(size, start, bytes.len() as u64) else {
         return Err(StoreFault::Store);

@@ -9,7 +9,7 @@ use Rattle.sqlite.specs.Term.{Term, Env}
 use Rattle.sqlite.specs.Query.{Query, Join, IsAnswer, matches, inner, end, output, output_cmp, page, Output}
 use Rattle.sqlite.specs.Program.{overlay}
 use Rattle.sqlite.specs.Effect.{Database, Answers}
-use Rattle.dep_statements.specs.Query.{plain_query, one_table, plainly, passes}
+use Rattle.dep_statements.specs.Query.{plain_query, one_table, plainly, passes_tests}
 
 -- What is found, each as an environment: it is put in an order that ORDER BY allows, shown and cut.
 pub record PicksBy {X : Type 0} (q : Query) (params : Row) (env : X → Env) (found : List X) (rows : List Row) : Type 0 where
@@ -52,10 +52,10 @@ module _ (tree : ℕ) (tests shows : List Term) (order : List (Term × Key)) (li
   abbrev q : Query
   q = one_table tree tests shows order limit
 
-  pub picks : (trees : Trees) (params : Row) (rows : List Row) → overlay trees [] tree ≡ trees tree → IsAnswer q (overlay trees []) params rows → Picks q params (filter (passes params tests) (trees tree)) rows
+  pub picks : (trees : Trees) (params : Row) (rows : List Row) → overlay trees [] tree ≡ trees tree → IsAnswer q (overlay trees []) params rows → Picks q params (filter (passes_tests params tests) (trees tree)) rows
   picks trees params rows own a =
-      picks_by (inner tree end) tests shows order limit (beside params) (filter (passes params tests) (trees tree)) (overlay trees []) params rows
-      (chosen (passes params tests) (beside params) (overlay trees [] tree) ∙ ap (λ all. map (beside params) (filter (passes params tests) all)) own) a
+      picks_by (inner tree end) tests shows order limit (beside params) (filter (passes_tests params tests) (trees tree)) (overlay trees []) params rows
+      (chosen (passes_tests params tests) (beside params) (overlay trees [] tree) ∙ ap (λ all. map (beside params) (filter (passes_tests params tests) all)) own) a
 
-  pub answers : (db : Database) (params : Row) (rows : List Row) → overlay db.trees [] tree ≡ db.trees tree → Answers db (plainly q) params rows → Picks q params (filter (passes params tests) (db.trees tree)) rows
+  pub answers : (db : Database) (params : Row) (rows : List Row) → overlay db.trees [] tree ≡ db.trees tree → Answers db (plainly q) params rows → Picks q params (filter (passes_tests params tests) (db.trees tree)) rows
   answers db params rows own h = picks db.trees params rows own (h.answer Null)

@@ -10,7 +10,7 @@ use Rattle.sqlite_trees.specs.Tree.{rowid, has_rowid, without_rowid, put_row}
 use Rattle.sqlite_trees.proofs.TreeLemmas.{later_rowids}
 use Rattle.sqlite_trees.proofs.ListLemmas.{filter_same, ascending-filter}
 use Rattle.sqlite_rules.proofs.ListLemmas.{all_from}
-use Rattle.dep_statements.specs.Query.{one_table, no_limit, passes}
+use Rattle.dep_statements.specs.Query.{one_table, no_limit, passes_tests}
 use Rattle.dep_statements.specs.Rows.{IsOrdered, replaced}
 use Rattle.dep_statements.proofs.Asking.{Picks}
 use Rattle.dep_statements.proofs.Answered.{shown_of, of_few, in_key_order, first_in_key_order, by_rowid}
@@ -52,24 +52,24 @@ take_one p f (x ∷ rows) = go (p x) refl (take_one p f rows)
 
 module _ (tree : ℕ) (tests shows : List Term) (params : Row) (before rows : List Row) (up : IsOrdered before) where
   -- SELECT .. by its key
-  pub by_key : (id : ℤ) → ((r : Row) → passes params tests r ≡ has_rowid id r) → Picks (one_table tree tests shows [] no_limit) params (filter (passes params tests) before) rows
+  pub by_key : (id : ℤ) → ((r : Row) → passes_tests params tests r ≡ has_rowid id r) → Picks (one_table tree tests shows [] no_limit) params (filter (passes_tests params tests) before) rows
       → rows ≡ map (shown_of params shows) (option_to_list (find (has_rowid id) before))
   by_key id test h =
-      let is : filter (passes params tests) before ≡ option_to_list (find (has_rowid id) before) = same_filter _ (has_rowid id) before test ∙ few_is_find id before up in
-      of_few tree tests shows [] params (filter (passes params tests) before) rows (rw is (few (find (has_rowid id) before))) h ∙ ap (map (shown_of params shows)) is
+      let is : filter (passes_tests params tests) before ≡ option_to_list (find (has_rowid id) before) = same_filter _ (has_rowid id) before test ∙ few_is_find id before up in
+      of_few tree tests shows [] params (filter (passes_tests params tests) before) rows (rw is (few (find (has_rowid id) before))) h ∙ ap (map (shown_of params shows)) is
 
   -- SELECT .. ORDER BY key LIMIT 1
-  pub by_next : (p : Row → Bool) → ((r : Row) → passes params tests r ≡ p r) → Picks (one_table tree tests shows by_rowid (lit (Int (pos 1)))) params (filter (passes params tests) before) rows
+  pub by_next : (p : Row → Bool) → ((r : Row) → passes_tests params tests r ≡ p r) → Picks (one_table tree tests shows by_rowid (lit (Int (pos 1)))) params (filter (passes_tests params tests) before) rows
       → rows ≡ map (shown_of params shows) (option_to_list (find p before))
   by_next p test h =
-      first_in_key_order tree tests shows params (filter (passes params tests) before) rows (ascending-filter _ (passes params tests) before up.0) h ∙ take_one (passes params tests) (shown_of params shows) before
+      first_in_key_order tree tests shows params (filter (passes_tests params tests) before) rows (ascending-filter _ (passes_tests params tests) before up.0) h ∙ take_one (passes_tests params tests) (shown_of params shows) before
       ∙ ap (λ o. map (shown_of params shows) (option_to_list o)) (same_find _ p before test)
 
   -- SELECT .. ORDER BY key
-  pub by_order : (p : Row → Bool) → ((r : Row) → passes params tests r ≡ p r) → Picks (one_table tree tests shows by_rowid no_limit) params (filter (passes params tests) before) rows
+  pub by_order : (p : Row → Bool) → ((r : Row) → passes_tests params tests r ≡ p r) → Picks (one_table tree tests shows by_rowid no_limit) params (filter (passes_tests params tests) before) rows
       → rows ≡ map (shown_of params shows) (filter p before)
   by_order p test h =
-      in_key_order tree tests shows params (filter (passes params tests) before) rows (ascending-filter _ (passes params tests) before up.0) h ∙ ap (map (shown_of params shows)) (same_filter _ p before test)
+      in_key_order tree tests shows params (filter (passes_tests params tests) before) rows (ascending-filter _ (passes_tests params tests) before up.0) h ∙ ap (map (shown_of params shows)) (same_filter _ p before test)
 
 pub without_key : (id : ℤ) (p : Row → Bool) (rows : List Row) → ((r : Row) → p r ≡ has_rowid id r) → filter (λ r. not (p r)) rows ≡ without_rowid id rows
 without_key id p rows test = same_filter _ (λ r. not (has_rowid id r)) rows (λ r. ap not (test r))

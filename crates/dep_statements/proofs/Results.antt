@@ -22,7 +22,7 @@ use Rattle.sqlite_rules.specs.Cast.{cast_row}
 use Rattle.sqlite_rules.specs.Edit.{edit_of, id_in, numbered, without_all, put_all, are_fresh, is_taken}
 use Rattle.sqlite_rules.specs.Calls.{ids_of}
 use Rattle.sqlite_rules.proofs.PlaceLemmas.{given}
-use Rattle.dep_statements.specs.Query.{one_table, no_limit, passes}
+use Rattle.dep_statements.specs.Query.{one_table, no_limit, passes_tests}
 use Rattle.dep_statements.specs.Rows.{IsOrdered, replaced}
 use Rattle.dep_statements.proofs.Asking.{Picks}
 use Rattle.dep_statements.proofs.Answered.{shown_of, in_any_order}
@@ -71,9 +71,9 @@ module _ (schema : Schema) (old new : State) (table : Table) where
   )
 
   module _ (tests shows : List Term) (order : List (Term × Key)) (params : Row) (rows : List Row) (up : IsOrdered rows_before) (keyed : (r : Row) → rowid (shown_of params shows r) ≡ rowid r)
-      (picked : Picks (one_table table.tree tests shows order no_limit) params (filter (passes params tests) rows_before) rows) where
+      (picked : Picks (one_table table.tree tests shows order no_limit) params (filter (passes_tests params tests) rows_before) rows) where
     abbrev p : Row → Bool
-    p = passes params tests
+    p = passes_tests params tests
 
     ids_same : IsPermutation (map key_of (filter p rows_before)) (ids_of rows)
     ids_same =
@@ -99,7 +99,7 @@ module _ (schema : Schema) (old new : State) (table : Table) where
 
     -- the rows that pass are changed
     pub changes : ((r : Row) → Has rows_before r → p r ≡ true → rowid (changed_by table shows params r) ≡ rowid r) → Wrote schema old new (edit_of old.now.trees table (ids_of rows) Given 1 rows)
-        → Made schema old new table.tree (map (λ r. if passes params tests r then changed_by table shows params r else r) rows_before)
+        → Made schema old new table.tree (map (λ r. if passes_tests params tests r then changed_by table shows params r else r) rows_before)
     changes keeps w =
         let cut = λ (s : Row). cast_row table (drop 1 s) in
         let news = map cut rows in
@@ -117,7 +117,7 @@ module _ (schema : Schema) (old new : State) (table : Table) where
         }
 
     -- the row with this key is changed to this one
-    pub replaces_row : (id : ℤ) (row : Row) → ((r : Row) → passes params tests r ≡ has_rowid id r) → rowid row ≡ Int id → ((r : Row) → rowid r ≡ Int id → changed_by table shows params r ≡ row)
+    pub replaces_row : (id : ℤ) (row : Row) → ((r : Row) → passes_tests params tests r ≡ has_rowid id r) → rowid row ≡ Int id → ((r : Row) → rowid r ≡ Int id → changed_by table shows params r ≡ row)
         → Wrote schema old new (edit_of old.now.trees table (ids_of rows) Given 1 rows) → Made schema old new table.tree (replaced row rows_before)
     replaces_row id row by_key keyed is w =
         let each = λ (r : Row) (h : Has rows_before r) (passing : p r ≡ true).

@@ -16,7 +16,7 @@ use Rattle.sqlite.specs.State.{State, Shown, Begins}
 use Rattle.sqlite.proofs.Callers.{IsPlain, command_of, begins_as}
 use Rattle.sqlite_value.specs.declared.keys.Key.{Key}
 use Rattle.sqlite_trees.specs.Tree.{has_rowid}
-use Rattle.dep_statements.specs.Query.{one_table, plainly, no_limit, passes}
+use Rattle.dep_statements.specs.Query.{one_table, plainly, no_limit, passes_tests}
 use Rattle.dep_statements.specs.Rows.{IsOrdered, InOrder, IsFirst}
 use Rattle.dep_statements.proofs.Asking.{Picks, answers}
 use Rattle.dep_statements.proofs.Answered.{shown_of, by_rowid, in_any_order, in_order, drop-none}
@@ -42,15 +42,15 @@ module _ (schema : Schema) (sql : List ℕ) (params : Row) (old : State) (ours :
   rows = old.now.trees tree
 
   picked : (new : State) (order : List (Term × Key)) (limit : Term) → Asks schema sql tree tests shows order limit → (found : List Row) → Shown sql params old new found
-      → Picks (one_table tree tests shows order limit) params (filter (passes params tests) rows) found
+      → Picks (one_table tree tests shows order limit) params (filter (passes_tests params tests) rows) found
   picked new order limit is found h = selected schema sql params old new ours is.plain tree tests shows order limit is.names is.is is.unlisted (own old.now.trees) found h
 
   -- SELECT .. by its key
-  pub selects_keyed : (new : State) → IsOrdered rows → Asks schema sql tree tests shows [] no_limit → (id : ℤ) → ((r : Row) → passes params tests r ≡ has_rowid id r) → (found : List Row) → Shown sql params old new found
+  pub selects_keyed : (new : State) → IsOrdered rows → Asks schema sql tree tests shows [] no_limit → (id : ℤ) → ((r : Row) → passes_tests params tests r ≡ has_rowid id r) → (found : List Row) → Shown sql params old new found
       → found ≡ map (shown_of params shows) (option_to_list (find (has_rowid id) rows))
   selects_keyed new up is id test found h = by_key tree tests shows params rows found up id test (picked new [] no_limit is found h)
 
-  module _ (p : Row → Bool) (test : (r : Row) → passes params tests r ≡ p r) where
+  module _ (p : Row → Bool) (test : (r : Row) → passes_tests params tests r ≡ p r) where
     -- SELECT .. ORDER BY key LIMIT 1
     pub selects_next : (new : State) → IsOrdered rows → Asks schema sql tree tests shows by_rowid first_only → (found : List Row) → Shown sql params old new found
         → found ≡ map (shown_of params shows) (option_to_list (find p rows))
@@ -63,16 +63,16 @@ module _ (schema : Schema) (sql : List ℕ) (params : Row) (old : State) (ours :
     -- SELECT .. in any order
     pub selects_all : (new : State) (order : List (Term × Key)) → Asks schema sql tree tests shows order no_limit → (found : List Row) → Shown sql params old new found → IsPermutation (map (shown_of params shows) (filter p rows)) found
     selects_all new order is found h =
-        subst (λ xs. IsPermutation (map (shown_of params shows) xs) found) (same_filter (passes params tests) p rows test)
-        (in_any_order tree tests shows order params (filter (passes params tests) rows) found (picked new order no_limit is found h))
+        subst (λ xs. IsPermutation (map (shown_of params shows) xs) found) (same_filter (passes_tests params tests) p rows test)
+        (in_any_order tree tests shows order params (filter (passes_tests params tests) rows) found (picked new order no_limit is found h))
 
     module _ (order : List (Term × Key)) (cmp : Row → Row → Ordering) (total : IsTotalOrder cmp)
         (agrees : (a b : Row) → output_cmp (one_table tree tests shows order no_limit) (output (one_table tree tests shows order no_limit) (params ∷ a ∷ [])) (output (one_table tree tests shows order no_limit) (params ∷ b ∷ []))
         ≡ cmp (shown_of params shows a) (shown_of params shows b)) where
-      sorted_pick : (found : List Row) → Picks (one_table tree tests shows order no_limit) params (filter (passes params tests) rows) found → InOrder cmp (map (shown_of params shows) (filter p rows)) found
+      sorted_pick : (found : List Row) → Picks (one_table tree tests shows order no_limit) params (filter (passes_tests params tests) rows) found → InOrder cmp (map (shown_of params shows) (filter p rows)) found
       sorted_pick found h = record {
-        same = subst (λ xs. IsPermutation (map (shown_of params shows) xs) found) (same_filter (passes params tests) p rows test) (in_any_order tree tests shows order params (filter (passes params tests) rows) found h);
-        sorted = in_order tree tests shows order params (filter (passes params tests) rows) found cmp agrees total h;
+        same = subst (λ xs. IsPermutation (map (shown_of params shows) xs) found) (same_filter (passes_tests params tests) p rows test) (in_any_order tree tests shows order params (filter (passes_tests params tests) rows) found h);
+        sorted = in_order tree tests shows order params (filter (passes_tests params tests) rows) found cmp agrees total h;
       }
 
       -- SELECT .. ORDER BY columns that are shown

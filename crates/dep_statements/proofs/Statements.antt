@@ -20,7 +20,7 @@ use Rattle.sqlite_rules.specs.Edit.{Edit, edit_of, Applies}
 use Rattle.sqlite_rules.specs.Action.{works}
 use Rattle.sqlite_rules.specs.Calls.{ids_of}
 use Rattle.dep_statements.specs.Tables.{plain_table}
-use Rattle.dep_statements.specs.Query.{one_table, plainly, passes}
+use Rattle.dep_statements.specs.Query.{one_table, plainly, passes_tests}
 use Rattle.dep_statements.proofs.Writes.{inserts, updates, deletes}
 use Rattle.dep_statements.proofs.Asking.{Picks, answers}
 
@@ -35,7 +35,7 @@ module _ (schema : Schema) (sql : List ℕ) (params : Row) (old new : State) (ou
   -- a query of one table
   pub selected : (tree : ℕ) (tests shows : List Term) (order : List (Term × Key)) (limit : Term) (names : List (List ℕ))
       → command_of (understood schema sql) ≡ Select (plainly (one_table tree tests shows order limit)) names → reads_listing schema sql ≡ false → overlay old.now.trees [] tree ≡ old.now.trees tree
-      → (rows : List Row) → Shown sql params old new rows → Picks (one_table tree tests shows order limit) params (filter (passes params tests) (old.now.trees tree)) rows
+      → (rows : List Row) → Shown sql params old new rows → Picks (one_table tree tests shows order limit) params (filter (passes_tests params tests) (old.now.trees tree)) rows
   selected tree tests shows order limit names is unlisted own rows h =
       answers tree tests shows order limit old.now params rows own (reads_as sql params old new schema ours (Select (plainly (one_table tree tests shows order limit)) names) is plain unlisted rows h)
 
@@ -60,7 +60,7 @@ module _ (schema : Schema) (sql : List ℕ) (params : Row) (old new : State) (ou
       idle olds news = subst (λ s. works s Enforced 0 tree olds news ≡ []) (sym ours) (free olds news)
 
       pub updated : (tests shows : List Term) (order : List (Term × Key)) (limit : Term) → command_of (understood schema sql) ≡ Update at (plainly (one_table tree tests shows order limit)) → overlay old.now.trees [] tree ≡ old.now.trees tree
-          → (rows : List Row) × Picks (one_table tree tests shows order limit) params (filter (passes params tests) (old.now.trees tree)) rows × Wrote schema old new (edit_of old.now.trees table (ids_of rows) Given 1 rows)
+          → (rows : List Row) × Picks (one_table tree tests shows order limit) params (filter (passes_tests params tests) (old.now.trees tree)) rows × Wrote schema old new (edit_of old.now.trees table (ids_of rows) Given 1 rows)
       updated tests shows order limit is own =
           let q = plainly (one_table tree tests shows order limit) in
           let w = runs_as sql params old new schema ours (Update at q) is plain count h.0 in
@@ -71,7 +71,7 @@ module _ (schema : Schema) (sql : List ℕ) (params : Row) (old new : State) (ou
           )
 
       pub deleted : (tests shows : List Term) (order : List (Term × Key)) (limit : Term) → command_of (understood schema sql) ≡ Delete at (plainly (one_table tree tests shows order limit)) → overlay old.now.trees [] tree ≡ old.now.trees tree
-          → (rows : List Row) × Picks (one_table tree tests shows order limit) params (filter (passes params tests) (old.now.trees tree)) rows × Wrote schema old new (edit_of old.now.trees table (ids_of rows) Given 0 [])
+          → (rows : List Row) × Picks (one_table tree tests shows order limit) params (filter (passes_tests params tests) (old.now.trees tree)) rows × Wrote schema old new (edit_of old.now.trees table (ids_of rows) Given 0 [])
       deleted tests shows order limit is own =
           let q = plainly (one_table tree tests shows order limit) in
           let w = runs_as sql params old new schema ours (Delete at q) is plain count h.0 in

@@ -30,7 +30,7 @@ use Rattle.sqlite_rules.specs.Lists.{Has}
 use Rattle.sqlite_rules.proofs.ListLemmas.{all_from}
 use Rattle.sqlite_rules.proofs.TableLemmas.{put_all_adds}
 use Rattle.dep_statements.specs.Tables.{plain_table}
-use Rattle.dep_statements.specs.Query.{one_table, plainly, no_limit, passes}
+use Rattle.dep_statements.specs.Query.{one_table, plainly, no_limit, passes_tests}
 use Rattle.dep_statements.specs.Rows.{IsOrdered, row_at, replaced, put_next}
 use Rattle.dep_statements.proofs.Statements.{inserted, updated, deleted}
 use Rattle.dep_statements.proofs.Results.{Made, same_made, changed_by, puts, takes, changes, replaces_row}
@@ -106,29 +106,29 @@ module _ (schema : Schema) (at tree : ℕ) (it : IsListed schema at tree) (sql :
       (done.0, no_key places p (next_rowid rows) values rows up done.1 (agrees (next_rowid rows)) (subst (λ xs. clashes plain places xs row ≡ false) done.0.rows_are none))
 
   -- DELETE of the rows that pass
-  pub deletes_where : (tests : List Term) → Deletes schema sql at tree tests → (p : Row → Bool) → ((r : Row) → passes params tests r ≡ p r) → Made schema old new tree (filter (λ r. not (p r)) rows)
+  pub deletes_where : (tests : List Term) → Deletes schema sql at tree tests → (p : Row → Bool) → ((r : Row) → passes_tests params tests r ≡ p r) → Made schema old new tree (filter (λ r. not (p r)) rows)
   deletes_where tests is p test =
       let all = deleted schema sql params old new ours is.1 count h at it.name tree it.columns it.key it.primary it.uniques it.orders it.listed it.free tests (col 1 0 ∷ []) [] no_limit is.0 (it.own old.now.trees) in
-      same_made (takes schema old new (table_of it) tests (col 1 0 ∷ []) [] params all.0 up (λ r. refl) all.1 all.2) (without_passing (passes params tests) p rows test)
+      same_made (takes schema old new (table_of it) tests (col 1 0 ∷ []) [] params all.0 up (λ r. refl) all.1 all.2) (without_passing (passes_tests params tests) p rows test)
 
   -- DELETE of the row with a key
-  pub deletes_keyed : (tests : List Term) → Deletes schema sql at tree tests → (id : ℤ) → ((r : Row) → passes params tests r ≡ has_rowid id r) → Made schema old new tree (without_rowid id rows)
+  pub deletes_keyed : (tests : List Term) → Deletes schema sql at tree tests → (id : ℤ) → ((r : Row) → passes_tests params tests r ≡ has_rowid id r) → Made schema old new tree (without_rowid id rows)
   deletes_keyed tests is id test = same_made (deletes_where tests is (has_rowid id) test) (without_key id (has_rowid id) rows (λ r. refl))
 
   -- UPDATE of the rows that pass, each of which keeps its rowid
-  pub updates_where : (tests shows : List Term) → Updates schema sql at tree tests shows → (p : Row → Bool) (change : Row → Row) → ((r : Row) → passes params tests r ≡ p r)
+  pub updates_where : (tests shows : List Term) → Updates schema sql at tree tests shows → (p : Row → Bool) (change : Row → Row) → ((r : Row) → passes_tests params tests r ≡ p r)
       → ((r : Row) → Has rows r → p r ≡ true → (changed_by (table_of it) (col 1 0 ∷ shows) params r ≡ change r) × (rowid (change r) ≡ rowid r))
       → Made schema old new tree (map (λ r. if p r then change r else r) rows)
   updates_where tests shows is p change test same =
       let all = updated schema sql params old new ours is.1 count h at it.name tree it.columns it.key it.primary it.uniques it.orders it.listed it.free tests (col 1 0 ∷ shows) [] no_limit is.0 (it.own old.now.trees) in
       let changed = changed_by (table_of it) (col 1 0 ∷ shows) params in
-      let each = λ (r : Row) (k : Has rows r) (passing : passes params tests r ≡ true).
+      let each = λ (r : Row) (k : Has rows r) (passing : passes_tests params tests r ≡ true).
       let both = same r k (sym (test r) ∙ passing) in ap rowid both.0 ∙ both.1 in
       same_made (changes schema old new (table_of it) tests (col 1 0 ∷ shows) [] params all.0 up (λ r. refl) all.1 each all.2)
-      (map_same _ _ rows (all_from _ rows (λ r k. if_same (passes params tests) p changed change r (test r) (λ passing. (same r k passing).0))))
+      (map_same _ _ rows (all_from _ rows (λ r k. if_same (passes_tests params tests) p changed change r (test r) (λ passing. (same r k passing).0))))
 
   -- UPDATE of the row with a key to a row
-  pub updates_keyed : (tests shows : List Term) → Updates schema sql at tree tests shows → (id : ℤ) (values : Row) → ((r : Row) → passes params tests r ≡ has_rowid id r)
+  pub updates_keyed : (tests shows : List Term) → Updates schema sql at tree tests shows → (id : ℤ) (values : Row) → ((r : Row) → passes_tests params tests r ≡ has_rowid id r)
       → ((r : Row) → rowid r ≡ Int id → changed_by (table_of it) (col 1 0 ∷ shows) params r ≡ Int id ∷ values) → Made schema old new tree (replaced (Int id ∷ values) rows)
   updates_keyed tests shows is id values test same =
       let all = updated schema sql params old new ours is.1 count h at it.name tree it.columns it.key it.primary it.uniques it.orders it.listed it.free tests (col 1 0 ∷ shows) [] no_limit is.0 (it.own old.now.trees) in

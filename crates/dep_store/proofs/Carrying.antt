@@ -16,7 +16,7 @@ use Rattle.dep_tables.specs.Schema.{our_schema}
 use Rattle.dep_tables.specs.Tables.{Tables, tables_in, tables_of, HasOurTables, IsOurs}
 use Rattle.dep_row_maps.specs.TablesAre.{TablesAre}
 use Rattle.dep_row_maps.specs.Clauses.{FromMaps}
-use Rattle.dep_files.specs.Reading.{IsKept}
+use Rattle.dep_files.specs.Reading.{StaysOrRollsBack}
 use Rattle.dep_tables.specs.Clauses.{ReadsWithin}
 use Rattle.dep_schema.specs.OpenTables.{StaysFile}
 use Rattle.dep_schema.proofs.Transacting.{IsMade}
@@ -101,11 +101,11 @@ pub ok_reported : {A E : Type 0} (old new : db.State) (r : Result A E) (reported
 ok_reported old new (Ok answer) reported t represents still its = (subst (λ (now : Tables). reported now answer) represents.rows its, represents_same old new t represents still)
 ok_reported old new (Err e) reported t represents still its = tt
 
-pub represents_kept : (old new : db.State) (s : State) → Represents old s → IsTrue new.is_open → IsKept old new → Represents new s
+pub represents_kept : (old new : db.State) (s : State) → Represents old s → IsTrue new.is_open → StaysOrRollsBack old new → Represents new s
 represents_kept old new s represents is_open kept =
     record { tables = represents.tables; represents = tables_kept old new represents.tables represents.represents is_open kept; means = represents.means }
 
-pub err_kept : {A E : Type 0} (old new : db.State) (r : Result A E) (s : State) → Represents old s → IsTrue new.is_open → IsKept old new → OnErr r (Represents new s)
+pub err_kept : {A E : Type 0} (old new : db.State) (r : Result A E) (s : State) → Represents old s → IsTrue new.is_open → StaysOrRollsBack old new → OnErr r (Represents new s)
 err_kept old new (Ok x) s represents is_open kept = tt
 err_kept old new (Err e) s represents is_open kept = represents_kept old new s represents is_open kept
 

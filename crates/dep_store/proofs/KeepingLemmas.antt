@@ -23,7 +23,7 @@ use Rattle.dep_exchange.specs.Archives.{TriesTo, Always, KeepsState, KeepsAll, K
 use Rattle.dep_exchange.proofs.Leaving.{Settles, leaves_before, leaves_once}
 use Rattle.dep_store.specs.Archive as store
 use Rattle.dep_store.specs.Shut as db_shut
-use Rattle.dep_store.specs.HashingStores.{Keeps, shown_by, reported_by}
+use Rattle.dep_store.specs.HashingStores.{Keeps, shown_with_hashes, reported_by}
 
 -- what was hashed of one upload
 still_running : (s t : State) (run : RunningHash) → KeepsSegments s t → IsRunning s run → IsRunning t run
@@ -44,7 +44,7 @@ module _ (d d' : db.State) (runs runs' : RunningHashes) where
   -- a call of the store, from each state for which that holds
   pub tries_hashed : {A E : Type 0} (holds given : State → Type 0) (reported : State → A → Type 0) (next : State → State) (r : Result A E)
       → ((s : State) → given s → AreRunning s runs → holds s) → KeepsRunning d d' runs runs' → ((s : State) → AreRunning s runs' → AreRunning (next s) runs')
-      → TriesTo (store.shown_by d) (store.shown_by d') holds reported next r → TriesTo (shown_by d runs) (shown_by d' runs') given reported next r
+      → TriesTo (store.shown_by d) (store.shown_by d') holds reported next r → TriesTo (shown_with_hashes d runs) (shown_with_hashes d' runs') given reported next r
   tries_hashed {A} {E} holds given reported next r knows stay go it = record {
     ok = λ clean s keeps its. IfOk-weaker r (λ answer. reported s answer × Represents d' (next s)) (λ answer. reported s answer × Keeps d' runs' (next s))
         (λ answer h. (h.0, record { represents = h.1; hashed = go s (stay h.1.represents.is_open s keeps.represents keeps.hashed) })) (it.ok clean s keeps.represents (knows s its keeps.hashed));
@@ -56,7 +56,7 @@ module _ (d d' : db.State) (runs runs' : RunningHashes) where
 
   -- a call that asks for nothing that the store keeps
   pub keeps_hashed : KeepsRunning d d' runs runs' → KeepsAll (store.shown_by d) (store.shown_by d')
-      → KeepsAll (shown_by d runs) (shown_by d' runs')
+      → KeepsAll (shown_with_hashes d runs) (shown_with_hashes d' runs')
   keeps_hashed hashed it = record {
     kept = λ is_open s keeps. record { represents = it.kept is_open s keeps.represents; hashed = hashed is_open s keeps.represents keeps.hashed };
     honest = it.honest;
@@ -64,11 +64,11 @@ module _ (d d' : db.State) (runs runs' : RunningHashes) where
     left = it.left;
   }
 
-  pub shut_hashed : {A E : Type 0} (r : Result A E) → db_shut.FailsIfShut d d' r → FailsIfShut (shown_by d runs) (shown_by d' runs') r
+  pub shut_hashed : {A E : Type 0} (r : Result A E) → db_shut.FailsIfShut d d' r → FailsIfShut (shown_with_hashes d runs) (shown_with_hashes d' runs') r
   shut_hashed r it = record { opened = it.opened; left = λ clean shut image h. (image, it.left clean shut image h, λ s. (λ x. x, λ x. x)) }
 
 -- one that keeps the state, and hashes nothing
-pub state_hashed : {A E : Type 0} (d d' : db.State) (runs : RunningHashes) (r : Result A E) → KeepsState (store.shown_by d) (store.shown_by d') r → KeepsState (shown_by d runs) (shown_by d' runs) r
+pub state_hashed : {A E : Type 0} (d d' : db.State) (runs : RunningHashes) (r : Result A E) → KeepsState (store.shown_by d) (store.shown_by d') r → KeepsState (shown_with_hashes d runs) (shown_with_hashes d' runs) r
 state_hashed d d' runs r it = tries_hashed d d' runs runs Always Always (λ s answer. Unit {0}) (λ s. s) r (λ s its are. tt) (λ is_open s represents are. are) (λ s are. are) it
 
 -- it failed as another call did
@@ -132,7 +132,7 @@ by_cause old new Broken has other = absurd (other refl)
 by_cause old new Unstorable has other = absurd has
 
 -- as its database fails to tell it
-pub fails_to_report : (old new : db.State) (fault : StoreFault) → db_shut.FailsToReport old new fault → FailsToReport (reported_by old) (reported_by new) fault
+pub fails_to_report : (old new : db.State) (fault : StoreFault) → db_shut.StoreFailsToReport old new fault → FailsToReport (reported_by old) (reported_by new) fault
 fails_to_report old new fault (inl (busy, same)) = subst (λ (f : StoreFault). FailsToReport (reported_by old) (reported_by new) f) (sym same) (inl busy)
 fails_to_report old new fault (inr (e, (cause, is, has, rolled, reported), other, same)) =
     subst (λ (f : StoreFault). FailsToReport (reported_by old) (reported_by new) f) (sym same)

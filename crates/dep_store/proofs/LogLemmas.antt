@@ -7,7 +7,8 @@ use Rattle.dep_types.specs.declared.refusal.Refusal.{Refusal}
 use Rattle.dep_decisions.specs.declared.operation.Operation.{Operation}
 use Rattle.dep_answers.specs.declared.performed.Performed.{Performed}
 use Rattle.dep_exchange.specs.Archives.{KeepsAll, CommitsIfDue, FallsDue}
-use Rattle.dep_store.specs.LogCopies.{is_by_reference, writes_much, after_call, has_call}
+use Rattle.dep_fields.specs.Kinds.{is_by_reference}
+use Rattle.dep_store.specs.LogCopies.{writes_much, after_call, has_call}
 use Rattle.dep_store.specs.declared.log_copy.LogCopy.{LogCopy}
 use Rattle.dep_store.specs.declared.log_copy.LogCopy.TheVariants.{NotDue, DueAfter}
 

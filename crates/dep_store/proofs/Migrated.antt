@@ -14,7 +14,7 @@ use Rattle.dep_schema.specs.OpenTables.{IsBack, StaysFile, IsOpenWithOf, IsOpenW
 use Rattle.dep_schema.specs.Transactions.{TransactsTo}
 use Rattle.dep_schema.proofs.Transactions.{represents_left}
 use Rattle.dep_schema.proofs.Transacting.{IsSettled, left_still}
-use Rattle.dep_files.specs.Reading.{IsKept}
+use Rattle.dep_files.specs.Reading.{StaysOrRollsBack}
 use Rattle.dep_files.specs.Sha512s.{AreValuesOf}
 use Rattle.dep_files.proofs.Upgraded.{stand_upgraded}
 use Rattle.dep_schema.specs.States.{TablesRepresent, OlderTablesRepresent, Represents, OlderRepresents, IsLeftAs}
@@ -34,7 +34,7 @@ represents_same {its} a b t represents same = record {
 }
 
 -- a call that only reads has left all as it was, or has ended no transaction
-pub tables_kept : {its : Schema} (a b : db.State) (t : Tables) → IsOpenWithOf its a t → IsTrue b.is_open → IsKept a b → IsOpenWithOf its b t
+pub tables_kept : {its : Schema} (a b : db.State) (t : Tables) → IsOpenWithOf its a t → IsTrue b.is_open → StaysOrRollsBack a b → IsOpenWithOf its b t
 tables_kept a b t represents is_open kept =
     elim (kept is_open) [
       | inl same ↦ represents_same a b t represents same
@@ -43,7 +43,7 @@ tables_kept a b t represents is_open kept =
 
 module _ (old new : db.State) (settled : IsTrue old.is_open → IsSettled old) (shut : IsTrue new.is_open → HasCleanDisk new) where
   -- the values were not all computed
-  pub not_computed : {A E : Type 0} (e : E) → (HasCleanDisk new → IsKnown old → IsKept old new) → (HasCleanDisk new → HasCleanDisk old)
+  pub not_computed : {A E : Type 0} (e : E) → (HasCleanDisk new → IsKnown old → StaysOrRollsBack old new) → (HasCleanDisk new → HasCleanDisk old)
       → (HasCleanDisk new → IsKnown old → Survives old new (λ _. ⊥)) → Migrates {A = A} old new (Err e)
   not_computed e kept clean survives = record {
     ok = λ late t represents. tt;
@@ -115,7 +115,7 @@ module _ {A E : Type 0} (old new : db.State) (result : Result A E) (it : Migrate
 -- ---- back at the last commit
 
 -- a call that only reads
-pub kept_back : (old new : db.State) → old.now ≡ old.committed → IsKept old new → IsTrue new.is_open → IsBack old new
+pub kept_back : (old new : db.State) → old.now ≡ old.committed → StaysOrRollsBack old new → IsTrue new.is_open → IsBack old new
 kept_back old new between kept is_open =
     elim (kept is_open) [
       | inl same ↦ (same.0.now_is ∙ between, same.0.committed_is)

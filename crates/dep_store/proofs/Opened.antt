@@ -12,7 +12,7 @@ use Rattle.dep_row_maps.proofs.Whole.{first_stands}
 use Rattle.dep_tables.specs.Schema.{our_schema, older_schema}
 use Rattle.dep_tables.specs.Tables.{Tables, tables_in, HasTablesOf, IsKnownSchema}
 use Rattle.dep_tables.specs.Versions.{our_version, older_version, HasVersion}
-use Rattle.dep_migrations.specs.FirstTables.{first_tables}
+use Rattle.dep_migrations.specs.FirstTables.{new_store_tables}
 use Rattle.dep_schema.specs.OpenTables.{HoldsOf, HoldsNone, IsOpenWithOf, CommitsOpen, IsOpenable, IsBack}
 use Rattle.dep_schema.proofs.Again.{sees_trees}
 use Rattle.dep_schema.proofs.Transacting.{IsSettled}
@@ -34,7 +34,7 @@ opened_stood old new found s finds (inr (t, holds, means)) =
     let it = finds older_schema (inr refl) t holds in inr (version_is t found older_version it.0 means.are.common.format, record { tables = t; represents = it.1; means = means })
 
 -- the tables of a new store represent the empty archive
-pub first_means : TablesRepresent first_tables empty_state
+pub first_means : TablesRepresent new_store_tables empty_state
 first_means = record { are = first_stands (stored_format our_version ∷ []) refl; sound = empty_sound }
 
 -- between transactions a crash leaves what is there
@@ -54,7 +54,7 @@ pub leaves_opened : (old new : db.State) → (IsTrue old.is_open → IsSettled o
 leaves_opened old new settled between survives = record {
   fresh = λ clean is_open none trees h. elim (survives.crash clean trees h) [
     | inl earlier ↦ inl (subst HoldsNone (sym (still is_open trees earlier)) none)
-    | inr made ↦ inr (inl (first_tables, made.new is_open none, first_means))
+    | inr made ↦ inr (inl (new_store_tables, made.new is_open none, first_means))
   ];
   found = λ clean is_open s left trees h. (
     s,

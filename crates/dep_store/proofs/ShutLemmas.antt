@@ -13,7 +13,7 @@ use Rattle.sqlite.specs.Schema.{Schema}
 use Rattle.dep_schema.specs.States.{Represents}
 use Rattle.dep_schema.specs.Transactions.{IsBackAt, IsRestored}
 use Rattle.dep_schema.proofs.Transacting.{tables_back}
-use Rattle.dep_store.specs.Shut.{LeavesNoMore, FailsIfShut, StaysOpen}
+use Rattle.dep_store.specs.Shut.{StoreLeavesNoMore, FailsIfShut, StaysOpen}
 use Rattle.sqlite.specs.Listing.{understood}
 use Rattle.sqlite_tied.specs.Compute.{everything}
 use Rattle.sqlite_resolve.specs.declared.compiled.Compiled.{Compiled}
@@ -24,7 +24,7 @@ on_any (Ok answer) P h = h
 on_any (Err e) P h = tt
 
 -- nothing was committed
-pub leaves_no_more : (old new : db.State) → Survives old new (λ _. ⊥) → LeavesNoMore old new
+pub leaves_no_more : (old new : db.State) → Survives old new (λ _. ⊥) → StoreLeavesNoMore old new
 leaves_no_more old new survives clean shut trees h = elim (survives.crash clean trees h) [ inl earlier ↦ earlier | inr none ↦ absurd none ]
 
 -- it failed, and nothing was committed

@@ -14,7 +14,7 @@ use Rattle.dep_tables.proofs.Results.{if_failed}
 use Rattle.dep_staging.specs.declared.running.RunningHashes.{RunningHashes}
 use Rattle.dep_files.specs.Faults.{BlamesOutlet}
 use Rattle.dep_schema.specs.OpenTables.{Holds, StaysFile}
-use Rattle.dep_schema.specs.States.{TablesRepresent, Represents, Leaves}
+use Rattle.dep_schema.specs.States.{TablesRepresent, Represents, DatabaseLeaves}
 use Rattle.dep_schema.specs.Transactions.{Transacts, OnlyReports, OverStates, IsBackAt, IsGivenBack, IsRestored}
 use Rattle.dep_schema.proofs.Transacting.{IsSettled, IsOver, ok_over_states, err_state, stop_over_states, ok_reports, still_reports, left_reports, leaves_still, leaves_as_was}
 use Rattle.dep_exchange.specs.Archives.{TriesTo, Ticks, Reports, KeepsState, KeepsAll, Always, CountsFailures}
@@ -26,7 +26,7 @@ use Rattle.dep_store.proofs.ShutLemmas.{state_back}
 
 -- what a stop leaves of a state whose tables stay
 pub leaves_held : (d : db.State) {tables : Tables} (s : State) → TablesRepresent tables s
-    → ((trees : Trees) → d.may_leave trees → Holds trees tables) → Leaves d (λ left. left ≡ s)
+    → ((trees : Trees) → d.may_leave trees → Holds trees tables) → DatabaseLeaves d (λ left. left ≡ s)
 leaves_held d {tables = tables} s means holds trees may = (s, inl (tables, holds trees may, means), refl)
 
 -- tables that stay represent the state still
@@ -123,7 +123,7 @@ keeps_same d = record {
 -- from what a call that reads leaves by its answer
 pub keeps_state : {A E : Type 0} (old new : db.State) (r : Result A E) → (HasCleanDisk new → (s : State) → Represents old s → OnOk r (Represents new s))
     → (IsTrue new.is_open → (s : State) → Represents old s → OnErr r (Represents new s)) → (HasCleanDisk new → HasCleanDisk old) → (IsTrue new.is_open → IsTrue old.is_open)
-    → (HasCleanDisk new → (s : State) → Represents old s → Leaves new (λ left. left ≡ s)) → KeepsState (shown_by old) (shown_by new) r
+    → (HasCleanDisk new → (s : State) → Represents old s → DatabaseLeaves new (λ left. left ≡ s)) → KeepsState (shown_by old) (shown_by new) r
 keeps_state {A} {E} old new r ok err honest was_open stop = record {
   ok = λ clean s at always. each r s (ok clean s at);
   err = err;

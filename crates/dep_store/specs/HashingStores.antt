@@ -19,8 +19,8 @@ pub record Keeps (d : db.State) (running : RunningHashes) (s : State) : Type 0 w
   pub hashed : AreRunning s running
 
 -- what its database shows, beside what was hashed
-abbrev pub shown_by : db.State → RunningHashes → Condition
-shown_by d running = record {
+abbrev pub shown_with_hashes : db.State → RunningHashes → Condition
+shown_with_hashes d running = record {
   is_open = d.is_open;
   is_honest = db.HasCleanDisk d;
   keeps = Keeps d running;
@@ -32,8 +32,8 @@ shown_by d running = record {
 }
 
 -- how the store stands, with what was hashed
-abbrev pub condition_of : {S : Type 0} → (g : Ghosts S) → HashingStore S → Condition
-condition_of g archive = shown_by (state g archive.store) archive.running
+abbrev pub condition_with_hashes : {S : Type 0} → (g : Ghosts S) → HashingStore S → Condition
+condition_with_hashes g archive = shown_with_hashes (state g archive.store) archive.running
 
 -- what its database says of its answers: it shows nothing of what it is asked for
 abbrev pub reported_by : db.State → CallLog

@@ -1,23 +1,10 @@
 -- When the log of a store is copied into its file.
 use Rattle.std.specs.Prelude.{zero, suc, Bool, true, false, nat_le, not, ◌&&◌, ◌||◌, length}
-use Rattle.dep_fields.specs.declared.field.Field.{Field}
-use Rattle.dep_fields.specs.declared.field.Field.TheVariants.{Absent, Bad, Value}
-use Rattle.dep_fields.specs.declared.kind.Kind.{Kind}
-use Rattle.dep_fields.specs.declared.kind.Kind.TheVariants as kind
+use Rattle.dep_fields.specs.Kinds.{is_by_reference}
 use Rattle.dep_types.specs.Methods.{is_safe}
 use Rattle.dep_decisions.specs.declared.operation.Operation.{Operation}
 use Rattle.dep_store.specs.declared.log_copy.LogCopy.{LogCopy}
 use Rattle.dep_store.specs.declared.log_copy.LogCopy.TheVariants.{NotDue, DueAfter}
-
--- the content is a document of references
-abbrev pub is_by_reference : Field Kind → Bool
-is_by_reference (Value kind.References) = true
-is_by_reference (Value (kind.File name)) = false
-is_by_reference (Value kind.Metadata) = false
-is_by_reference (Value (kind.Opening its)) = false
-is_by_reference (Value (kind.Segment number)) = false
-is_by_reference Absent = false
-is_by_reference Bad = false
 
 -- the request may write 4 MiB or more
 abbrev pub writes_much : Operation → Bool

@@ -12,7 +12,7 @@ use Rattle.dep_tables.specs.declared.sha512s.FileSha512.{FileSha512}
 use Rattle.dep_row_maps.specs.Sha512s.{upgraded}
 use Rattle.dep_schema.specs.OpenFaults.{ReportsVersion}
 use Rattle.dep_schema.specs.OpenTables.{Holds, HoldsOlder, HoldsNone, StaysFile, IsOpenWithOlder, IsBack, IsOpenable}
-use Rattle.dep_schema.specs.States.{Represents, OlderRepresents, IsLeftAs, Leaves}
+use Rattle.dep_schema.specs.States.{Represents, OlderRepresents, IsLeftAs, DatabaseLeaves}
 use Rattle.dep_schema.specs.declared.opening.OpenFault.{OpenFault}
 use Rattle.dep_schema.specs.declared.opening.OpenFault.TheVariants.{UnknownVersion}
 use Rattle.dep_files.specs.Sha512s.{AreValuesOf}
@@ -55,7 +55,7 @@ pub record OpenLeaves (old new : db.State) : Type 0 where
   pub fresh : HasCleanDisk new → IsTrue old.is_open → HoldsNone old.now.trees
       → (trees : Trees) → new.may_leave trees → HoldsNone trees ⊎ IsLeftAs trees empty_state
   pub found : HasCleanDisk new → IsTrue old.is_open → (s : State) → IsLeftAs old.now.trees s
-      → Leaves new (λ left. left ≡ s)
+      → DatabaseLeaves new (λ left. left ≡ s)
 
 -- a failure between transactions falls back to the last commit of tables of ours
 abbrev pub FallsBack : {A E : Type 0} (old new : db.State) → Result A E → Type 0
@@ -104,6 +104,6 @@ module _ {S : Type 0} (g : Ghosts S) (old : Held S) where
   KeepsTables refused = IsTrue (state g refused.1).is_open → Keeps (state g old) (state g refused.1)
 
   -- and what represented a state represents it still
-  abbrev pub KeepsState : OpenFault × Held S → Type 0
-  KeepsState refused = IsTrue (state g refused.1).is_open
+  abbrev pub StillRepresents : OpenFault × Held S → Type 0
+  StillRepresents refused = IsTrue (state g refused.1).is_open
       → (s : State) → IsLeftAs (state g old).now.trees s → Stood (state g refused.1) s

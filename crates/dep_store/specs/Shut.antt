@@ -17,14 +17,14 @@ use Rattle.dep_store.specs.Archive.{shown_by}
 
 -- where the store was shut, and the disk has told no lie that was taken as true, a crash leaves
 -- nothing that it might not have left before
-abbrev pub LeavesNoMore : (old new : db.State) → Type 0
-LeavesNoMore old new = db.HasCleanDisk new → ¬ IsTrue old.is_open
+abbrev pub StoreLeavesNoMore : (old new : db.State) → Type 0
+StoreLeavesNoMore old new = db.HasCleanDisk new → ¬ IsTrue old.is_open
     → (trees : Trees) → new.may_leave trees → old.may_leave trees
 
 -- so it fails
 pub record FailsIfShut {A E : Type 0} (old new : db.State) (result : Result A E) : Type 0 where
   pub opened : db.HasCleanDisk new → OnOk result (IsTrue old.is_open)
-  pub left : LeavesNoMore old new
+  pub left : StoreLeavesNoMore old new
 
 -- so a tick fails, which else moves the clock
 pub record TicksIfOpen {E : Type 0} (old new : db.State) (config : Config) (moment : ℕ) (result : Result ℕ E)
@@ -48,13 +48,13 @@ pub record SendsFile {A : Type 0} (old new : db.State) (taken takes : Option (Li
 
 -- Why it isn't known whether a store is open: a transaction is under way; or the store failed, by this fault, and not
 -- because it was shut before: memory was refused, or the disk failed once more.
-abbrev pub FailsToReport : (old new : db.State) → StoreFault → Type 0
-FailsToReport old new fault =
+abbrev pub StoreFailsToReport : (old new : db.State) → StoreFault → Type 0
+StoreFailsToReport old new fault =
     (IsTrue old.in_transaction × (fault ≡ Store))
     ⊎ ((e : Error) × db.Fails old new ⊥ e × (e ≢ SqliteFailure Closed) × (fault ≡ fault_for e))
 
 -- nothing changes, and it is returned, or there is a cause why it isn't
 pub record AsksIfOpen (old new : db.State) (result : Result Bool StoreFault) : Type 0 where
   pub reported : IfOk result (ReportsOpen (shown_by new))
-  pub cause : db.HasCleanDisk new → IfErr result (FailsToReport old new)
+  pub cause : db.HasCleanDisk new → IfErr result (StoreFailsToReport old new)
   pub restored : IsRestored old new

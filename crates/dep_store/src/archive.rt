@@ -9,7 +9,7 @@ ghost use Rattle.dep_staging.specs.HashedAhead.{AreRunning};
 ghost use Rattle.dep_schema.proofs.Transacting.{leaves_as_was};
 ghost use Rattle.dep_exchange.specs.ArchiveCalls.{Runs, WorkedAhead};
 ghost use Rattle.dep_exchange.specs.Archives.{CommitsIfDue, KeepsEachState};
-ghost use Rattle.dep_store.specs.HashingStores.{call_log_of, condition_of, may_commit};
+ghost use Rattle.dep_store.specs.HashingStores.{call_log_of, condition_with_hashes, may_commit};
 ghost use Rattle.dep_store.specs.LogCopies.{after_call};
 ghost use Rattle.dep_store.specs.Staying.{HashesOn};
 
@@ -105,7 +105,7 @@ fn note_segment(
 }
 
 impl<S: Alter> Archive for HashingStore<S> {
-    ghost condition = { condition_of S.Store };
+    ghost condition = { condition_with_hashes S.Store };
 
     ghost call_log = { call_log_of S.Store };
 
@@ -151,9 +151,9 @@ impl<S: Alter> Archive for HashingStore<S> {
         ensures asked { Runs (WorkedAhead result)
             (call_log_of S.Store self.old) (call_log_of S.Store self.new) }
         ensures commits { CommitsIfDue (may_commit self.old) (may_commit self.new)
-            (condition_of S.Store self.old) (condition_of S.Store self.new) }
+            (condition_with_hashes S.Store self.old) (condition_with_hashes S.Store self.new) }
         ensures rests { KeepsEachState
-            (condition_of S.Store self.old) (condition_of S.Store self.new) }
+            (condition_with_hashes S.Store self.old) (condition_with_hashes S.Store self.new) }
         // Also while requests wait each call brings the copy of the log nearer.
         ensures counts { self.new.log_copy ≡ after_call self.old.log_copy }
     {

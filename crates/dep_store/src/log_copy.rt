@@ -6,7 +6,7 @@ ghost use Rattle.dep_store.specs.LogCopies.{writes_much, after_call, has_call};
 use dep_answers::Performed;
 use dep_decisions::Operation;
 use dep_exchange::ROUNDS_TO_REPLY;
-use dep_fields::{Field, Kind};
+use dep_fields::is_by_reference;
 
 /// A content of so many octets makes the log long: it fills 1,024 of its pages, and a log of 1,000 is copied.
 const LONG_CONTENT: usize = 4_194_304;
@@ -26,7 +26,7 @@ fn writes_much(operation: &Operation<'_>) -> bool
 {
     !operation.target.method.is_safe()
         && (operation.content.as_slice().len() >= LONG_CONTENT
-            || matches!(operation.fields.disposition, Field::Value(Kind::References)))
+            || is_by_reference(&operation.fields.disposition))
 }
 
 impl LogCopy {

@@ -10,17 +10,17 @@ ghost use Rattle.dep_answers.specs.Steps.{operation_step};
 ghost use Rattle.dep_row_maps.specs.Keyed.{next_entry};
 ghost use Rattle.dep_tables.specs.Edits.{IsObjectAfter};
 ghost use Rattle.dep_staging.specs.HashedAhead.{AreRunning};
-ghost use Rattle.dep_schema.specs.States.{Represents, Leaves};
+ghost use Rattle.dep_schema.specs.States.{Represents, DatabaseLeaves};
 ghost use Rattle.dep_schema.specs.Performing.{IsKeptUnchanged, KeepsRunning};
 ghost use Rattle.dep_store.specs.Causes.{OpensFor, RefusesFor};
-ghost use Rattle.dep_store.specs.Migrating.{FindsOlder, FindsState, FindsTables, KeepsState, KeepsTables, OfEither, OpenLeaves, RefusesNoState, RefusesNone, StartsEmpty};
+ghost use Rattle.dep_store.specs.Migrating.{FindsOlder, FindsState, FindsTables, StillRepresents, KeepsTables, OfEither, OpenLeaves, RefusesNoState, RefusesNone, StartsEmpty};
 ghost use Rattle.dep_exchange.specs.Shut.{ReportsOpen};
 ghost use Rattle.dep_exchange.specs.Archives.{MakesStep, Reports, KeepsAll};
 ghost use Rattle.dep_files.specs.Fixity.{IsAudited};
 ghost use Rattle.dep_store.specs.Archive.{condition_of};
 ghost use Rattle.dep_store.specs.Copying.{CopiesLog};
 ghost use Rattle.dep_store.specs.SendingOn.{BeginsIfOpen, SendsOn};
-ghost use Rattle.dep_store.specs.Shut.{FailsIfShut, FailsToReport, SendsFile, TicksIfOpen};
+ghost use Rattle.dep_store.specs.Shut.{FailsIfShut, StoreFailsToReport, SendsFile, TicksIfOpen};
 ghost use Rattle.dep_store.specs.Staying.{TablesStay, ReportsTables, LeavesOnly, HashesOn};
 
 use crate::caching::{Known, look, report_open};
@@ -94,7 +94,7 @@ impl<S: Alter> Store<S> {
         // A fault that leaves the store open leaves tables of ours as they were, in the version that they had, and any others
         // of which version 1 is not shown.
         ensures left { IfErr result (KeepsTables S.Store connection) }
-        ensures stood { IfErr result (KeepsState S.Store connection) }
+        ensures stood { IfErr result (StillRepresents S.Store connection) }
         ensures mode { OfEither result (λ left. (state S.Store left).in_transaction ≡ false) }
         ensures honest { OfEither result
             (λ left. HasCleanDisk (state S.Store left) → HasCleanDisk (state S.Store connection)) }
@@ -349,7 +349,7 @@ impl<S: Alter> Store<S> {
         ensures reported { IfOk result (ReportsOpen (condition_of S.Store self.new)) }
         // A failure has a cause, of which lack of memory can be seen by nobody.
         ensures cause { HasCleanDisk (state S.Store self.new)
-            → IfErr result (FailsToReport (state S.Store self.old) (state S.Store self.new)) }
+            → IfErr result (StoreFailsToReport (state S.Store self.old) (state S.Store self.new)) }
         ensures rests { KeepsAll (condition_of S.Store self.old) (condition_of S.Store self.new) }
         ensures left { LeavesOnly (state S.Store self.old) (state S.Store self.new) }
     {
@@ -366,7 +366,7 @@ impl<S: Alter> Store<S> {
     /// While the store represents a state, a crash leaves that state.
     pub fn settled(&self)
         ensures left { (s : State) → Represents (state S.Store self.now) s
-            → Leaves (state S.Store self.now) (λ left. left ≡ s) }
+            → DatabaseLeaves (state S.Store self.now) (λ left. left ≡ s) }
         ensures clean { IsTrue (state S.Store self.now).is_open
             → HasCleanDisk (state S.Store self.now) }
     {}

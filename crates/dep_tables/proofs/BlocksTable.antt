@@ -26,7 +26,7 @@ use Rattle.sqlite_sql.specs.declared.ops.CompareOp.TheVariants.{Lt}
 use Rattle.sqlite_schema.specs.Rules.{agree}
 use Rattle.sqlite_rules.specs.Edit.{with_rowid}
 use Rattle.sqlite_rules.specs.Lists.{Has}
-use Rattle.dep_statements.specs.Query.{equals, falls_below, no_limit, rising, passes}
+use Rattle.dep_statements.specs.Query.{equals, falls_below, no_limit, rising, passes_tests}
 use Rattle.dep_statements.specs.Rows.{put_next, columns_from, is_below_number, IsFirst}
 use Rattle.dep_statements.proofs.Values.{cast_int, cast_null}
 use Rattle.dep_statements.proofs.Tests.{equals_int, holds_number, passes_below, passes_two, passes_three, passes_four}
@@ -41,7 +41,7 @@ use Rattle.dep_tables.specs.Texts.{insert_block_text, delete_blocks_text, delete
 use Rattle.dep_tables.specs.declared.owner.BlockOwner.{BlockOwner}
 use Rattle.dep_tables.specs.declared.owner.BlockKey.{BlockKey}
 use Rattle.dep_tables.specs.declared.owner.BlockPlace.{BlockPlace}
-use Rattle.dep_tables.specs.Rows.{kind_of, number_of, owner_values, part_values, key_values, block_values, move_values, move_run_values, place_values, shown_place, shown_number, is_block, is_block_of, is_part_of, is_earlier_block, moved_to, by_part_and_place, by_falling_place}
+use Rattle.dep_tables.specs.Rows.{owner_kind, owner_number, owner_values, part_values, key_values, block_values, move_values, move_run_values, place_values, shown_place, shown_number, is_block, is_block_of, is_part_of, is_earlier_block, moved_to, by_part_and_place, by_falling_place}
 use Rattle.dep_tables.specs.Tables.{tables_of, IsOurs, Leads}
 use Rattle.dep_tables.proofs.Leading.{leads, blocks_at}
 use Rattle.dep_tables.proofs.Answered.{read_first}
@@ -62,15 +62,15 @@ agrees k bytes id other same =
     let parts = and_parts _ _ same in
     let three = and_parts _ _ parts.0 in
     let two = and_parts _ _ three.0 in
-    and_from _ _ (equals_int (column other 1) (pos (kind_of k.owner)) ∙ two.0)
-    (and_from _ _ (equals_int (column other 2) (pos (number_of k.owner)) ∙ two.1)
+    and_from _ _ (equals_int (column other 1) (pos (owner_kind k.owner)) ∙ two.0)
+    (and_from _ _ (equals_int (column other 2) (pos (owner_number k.owner)) ∙ two.1)
     (and_from _ _ (equals_int (column other 3) (pos k.at.part) ∙ three.1) (and_from _ _ (equals_int (column other 4) (pos k.at.place) ∙ parts.1) refl)))
 
 pub inserts_block : (old new : State) (k : BlockKey) (bytes : List ℕ) (count : ℕ) → IsOurs old → ExecutesInside 0 insert_block_text (block_values k bytes) old new (Ok count)
     → Leads old new (record (tables_of old) { blocks = put_next (block_values k bytes) (tables_of old).blocks }) × (list_any (is_block k) (tables_of old).blocks ≡ false)
 inserts_block old new k bytes count ours h =
     let made = inserts_next our_schema 8 10 blocks_at insert_block_text (block_values k bytes) old new ours.schema ours.trees.ordered.1.1.1.1.1.1.1.1.0 count h _ insert_is (block_values k bytes)
-    (λ i. with_rowid Chosen (old.now.trees 10) (cast_null i ∷ cast_int (pos (kind_of k.owner)) i ∷ cast_int (pos (number_of k.owner)) i ∷ cast_int (pos k.at.part) i ∷ cast_int (pos k.at.place) i ∷ Blob bytes ∷ []) ∷ [])
+    (λ i. with_rowid Chosen (old.now.trees 10) (cast_null i ∷ cast_int (pos (owner_kind k.owner)) i ∷ cast_int (pos (owner_number k.owner)) i ∷ cast_int (pos k.at.part) i ∷ cast_int (pos k.at.place) i ∷ Blob bytes ∷ []) ∷ [])
     places key (is_block k) (agrees k bytes) in
     (leads old new 10 _ ours made.0 _ refl, made.1)
 
@@ -79,9 +79,9 @@ inserts_block old new k bytes count ours h =
 abbrev pub of_owner : List Term
 of_owner = equals (col 1 1) (col 0 0) ∷ equals (col 1 2) (col 0 1) ∷ []
 
-pub tests_owner : (o : BlockOwner) (row : Row) → passes (owner_values o) of_owner row ≡ is_block_of o row
+pub tests_owner : (o : BlockOwner) (row : Row) → passes_tests (owner_values o) of_owner row ≡ is_block_of o row
 tests_owner o row =
-    passes_two (owner_values o) row (equals (col 1 1) (col 0 0)) (equals (col 1 2) (col 0 1)) _ _ (holds_number (owner_values o) 0 (kind_of o) 1 row refl) (holds_number (owner_values o) 1 (number_of o) 2 row refl)
+    passes_two (owner_values o) row (equals (col 1 1) (col 0 0)) (equals (col 1 2) (col 0 1)) _ _ (holds_number (owner_values o) 0 (owner_kind o) 1 row refl) (holds_number (owner_values o) 1 (owner_number o) 2 row refl)
 
 pub delete_is : Deletes our_schema delete_blocks_text 8 10 of_owner
 unfolding understood everything
@@ -101,10 +101,10 @@ holds_below : (params : Row) (slot n at : ℕ) (row : Row) → column params slo
 holds_below params slot n at row is = ap (λ v. is_true (binary (Compare Lt Binary) (column row at) v)) is ∙ sym (and_true _) ∙ passes_below n at row
 
 -- with the parameters of a key, whatever follows them
-pub tests_earlier : (k : BlockKey) (more row : Row) → passes (key_values k ++ more) earlier row ≡ is_earlier_block k row
+pub tests_earlier : (k : BlockKey) (more row : Row) → passes_tests (key_values k ++ more) earlier row ≡ is_earlier_block k row
 tests_earlier k more row =
     let params = key_values k ++ more in
-    passes_four params row (equals (col 1 1) (col 0 0)) (equals (col 1 2) (col 0 1)) (equals (col 1 3) (col 0 2)) (falls_below (col 1 4) (col 0 3)) _ _ _ _ (holds_number params 0 (kind_of k.owner) 1 row refl) (holds_number params 1 (number_of k.owner) 2 row refl)
+    passes_four params row (equals (col 1 1) (col 0 0)) (equals (col 1 2) (col 0 1)) (equals (col 1 3) (col 0 2)) (falls_below (col 1 4) (col 0 3)) _ _ _ _ (holds_number params 0 (owner_kind k.owner) 1 row refl) (holds_number params 1 (owner_number k.owner) 2 row refl)
     (holds_number params 2 k.at.part 3 row refl) (holds_below params 3 k.at.place 4 row refl)
 
 pub delete_run_is : Deletes our_schema delete_run_text 8 10 earlier
@@ -114,18 +114,18 @@ delete_run_is = (refl, (refl, refl))
 -- ---- moves
 
 -- what an UPDATE stores of a block that is there, whose new owner stands in these two of its parameters
-moves_row : (s : State) → IsOurs s → (to : BlockOwner) (params : Row) (kind number : ℕ) → column params kind ≡ Int (pos (kind_of to)) → column params number ≡ Int (pos (number_of to)) → (r : Row) → Has (s.now.trees 10) r
+moves_row : (s : State) → IsOurs s → (to : BlockOwner) (params : Row) (kind number : ℕ) → column params kind ≡ Int (pos (owner_kind to)) → column params number ≡ Int (pos (owner_number to)) → (r : Row) → Has (s.now.trees 10) r
     → changed_by blocks_table (col 1 0 ∷ col 1 0 ∷ col 0 kind ∷ col 0 number ∷ col 1 3 ∷ col 1 4 ∷ col 1 5 ∷ []) params r ≡ moved_to to r
 moves_row s ours to params kind number kind_is number_is r there =
     let keyed = has_its_key (s.now.trees 10) r ours.trees.ordered.1.1.1.1.1.1.1.1.0 there in
     let id : cast Integer (column r 0) ≡ column r 0 = ap (cast Integer) keyed ∙ cast_int (key_of r) ∙ sym keyed in
     let part = kept_integer (column r 3) (stored_column our_schema blocks_table 8 refl refl s.now.trees ours.trees.sound.obeys r there 2 _ _ _ refl) in
     let place = kept_integer (column r 4) (stored_column our_schema blocks_table 8 refl refl s.now.trees ours.trees.sound.obeys r there 3 _ _ _ refl) in
-    λ i. id i ∷ (ap (cast Integer) kind_is ∙ cast_int (pos (kind_of to))) i ∷ (ap (cast Integer) number_is ∙ cast_int (pos (number_of to))) i ∷ part i ∷ place i ∷ column r 5 ∷ []
+    λ i. id i ∷ (ap (cast Integer) kind_is ∙ cast_int (pos (owner_kind to))) i ∷ (ap (cast Integer) number_is ∙ cast_int (pos (owner_number to))) i ∷ part i ∷ place i ∷ column r 5 ∷ []
 
-tests_moved : (o to : BlockOwner) (row : Row) → passes (move_values o to) of_owner row ≡ is_block_of o row
+tests_moved : (o to : BlockOwner) (row : Row) → passes_tests (move_values o to) of_owner row ≡ is_block_of o row
 tests_moved o to row =
-    passes_two (move_values o to) row (equals (col 1 1) (col 0 0)) (equals (col 1 2) (col 0 1)) _ _ (holds_number (move_values o to) 0 (kind_of o) 1 row refl) (holds_number (move_values o to) 1 (number_of o) 2 row refl)
+    passes_two (move_values o to) row (equals (col 1 1) (col 0 0)) (equals (col 1 2) (col 0 1)) _ _ (holds_number (move_values o to) 0 (owner_kind o) 1 row refl) (holds_number (move_values o to) 1 (owner_number o) 2 row refl)
 
 move_is : Updates our_schema move_blocks_text 8 10 of_owner (col 1 0 ∷ col 0 2 ∷ col 0 3 ∷ col 1 3 ∷ col 1 4 ∷ col 1 5 ∷ [])
 unfolding understood everything
@@ -154,10 +154,10 @@ moves_run old new k to count ours h =
 abbrev pub of_key : List Term
 of_key = equals (col 1 1) (col 0 0) ∷ equals (col 1 2) (col 0 1) ∷ equals (col 1 3) (col 0 2) ∷ equals (col 1 4) (col 0 3) ∷ []
 
-pub tests_key : (k : BlockKey) (row : Row) → passes (key_values k) of_key row ≡ is_block k row
+pub tests_key : (k : BlockKey) (row : Row) → passes_tests (key_values k) of_key row ≡ is_block k row
 tests_key k row =
     let params = key_values k in
-    passes_four params row (equals (col 1 1) (col 0 0)) (equals (col 1 2) (col 0 1)) (equals (col 1 3) (col 0 2)) (equals (col 1 4) (col 0 3)) _ _ _ _ (holds_number params 0 (kind_of k.owner) 1 row refl) (holds_number params 1 (number_of k.owner) 2 row refl)
+    passes_four params row (equals (col 1 1) (col 0 0)) (equals (col 1 2) (col 0 1)) (equals (col 1 3) (col 0 2)) (equals (col 1 4) (col 0 3)) _ _ _ _ (holds_number params 0 (owner_kind k.owner) 1 row refl) (holds_number params 1 (owner_number k.owner) 2 row refl)
     (holds_number params 2 k.at.part 3 row refl) (holds_number params 3 k.at.place 4 row refl)
 
 pub read_is : Asks our_schema read_block_text 10 of_key (col 1 5 ∷ []) [] no_limit
@@ -189,10 +189,10 @@ firsts_block old new o found ours read =
 abbrev of_part : List Term
 of_part = equals (col 1 1) (col 0 0) ∷ equals (col 1 2) (col 0 1) ∷ equals (col 1 3) (col 0 2) ∷ []
 
-tests_part : (o : BlockOwner) (part : ℕ) (row : Row) → passes (part_values o part) of_part row ≡ is_part_of o part row
+tests_part : (o : BlockOwner) (part : ℕ) (row : Row) → passes_tests (part_values o part) of_part row ≡ is_part_of o part row
 tests_part o part row =
     let params = part_values o part in
-    passes_three params row (equals (col 1 1) (col 0 0)) (equals (col 1 2) (col 0 1)) (equals (col 1 3) (col 0 2)) _ _ _ (holds_number params 0 (kind_of o) 1 row refl) (holds_number params 1 (number_of o) 2 row refl)
+    passes_three params row (equals (col 1 1) (col 0 0)) (equals (col 1 2) (col 0 1)) (equals (col 1 3) (col 0 2)) _ _ _ (holds_number params 0 (owner_kind o) 1 row refl) (holds_number params 1 (owner_number o) 2 row refl)
     (holds_number params 2 part 3 row refl)
 
 abbrev falling : List (Term × Key)

@@ -12,7 +12,7 @@ use Rattle.sqlite_value.specs.Keys.{plain, first_key}
 use Rattle.sqlite_schema.specs.Rules.{agree}
 use Rattle.sqlite_trees.specs.Tree.{with_tree, without_rowid, rowid}
 use Rattle.sqlite_trees.proofs.ListLemmas.{all-slice_get}
-use Rattle.dep_statements.specs.Query.{equals, exceeds, no_limit, passes}
+use Rattle.dep_statements.specs.Query.{equals, exceeds, no_limit, passes_tests}
 use Rattle.dep_statements.specs.Rows.{IsOrdered, row_at, columns_from, is_after, has_number}
 use Rattle.dep_statements.proofs.Tests.{equals_int, passes_key, passes_after}
 use Rattle.dep_statements.proofs.Answered.{by_rowid, shown_of}
@@ -55,7 +55,7 @@ module _ {at tree : ℕ} (it : IsListed our_schema at tree) where
   leads_with old new rows ours made = leads old new tree rows ours made _ refl
 
   -- DELETE of the rows that pass
-  pub deletes_all : (sql : List ℕ) (tests : List Term) (params : Row) → Deletes our_schema sql at tree tests → (p : Row → Bool) → ((r : Row) → passes params tests r ≡ p r)
+  pub deletes_all : (sql : List ℕ) (tests : List Term) (params : Row) → Deletes our_schema sql at tree tests → (p : Row → Bool) → ((r : Row) → passes_tests params tests r ≡ p r)
       → (old new : State) (count : ℕ) → IsOurs old → ExecutesInside 0 sql params old new (Ok count) → LeadsWith old new (filter (λ r. not (p r)) (old.now.trees tree))
   deletes_all sql tests params is p test old new count ours h =
       leads_with old new _ ours (deletes_where our_schema at tree it sql params old new ours.schema (rises old ours) count h tests is p test)
@@ -82,7 +82,7 @@ module _ {at tree : ℕ} (it : IsListed our_schema at tree) where
 
   -- SELECT of one column of the rows that pass, of which at most one was read
   pub finds_value : {B : Type 0} (value : B → Value) (sql : List ℕ) (tests : List Term) (params : Row) (c : ℕ) → Asks our_schema sql tree tests (col 1 c ∷ []) [] no_limit
-      → (p : Row → Bool) → ((r : Row) → passes params tests r ≡ p r)
+      → (p : Row → Bool) → ((r : Row) → passes_tests params tests r ≡ p r)
       → (old new : State) (found : Option B) → IsOurs old → (rows : List Row) × Shown sql params old new rows × (map (λ b. value b ∷ []) (option_to_list found) ≡ map (columns_from 0 1) rows)
       → map (λ r. column r c) (filter p (old.now.trees tree)) ≡ option_to_list (option_map value found)
   finds_value value sql tests params c is p test old new found ours read =

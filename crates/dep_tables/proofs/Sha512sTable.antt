@@ -17,7 +17,7 @@ use Rattle.dep_statements.proofs.Selected.{Asks}
 use Rattle.dep_tables.specs.Schema.{our_schema, sha512s_table}
 use Rattle.dep_tables.specs.Texts.{insert_sha512_text, delete_sha512_text, find_sha512_text}
 use Rattle.dep_tables.specs.declared.owner.BlockOwner.{BlockOwner}
-use Rattle.dep_tables.specs.Rows.{kind_of, number_of, sha512_values, is_sha512_of}
+use Rattle.dep_tables.specs.Rows.{owner_kind, owner_number, sha512_values, is_sha512_of}
 use Rattle.dep_tables.specs.Tables.{tables_of, IsOurs, Leads}
 use Rattle.dep_tables.proofs.OneTable.{two_agree}
 use Rattle.dep_tables.proofs.Leading.{leads, sha512s_at}
@@ -34,8 +34,8 @@ pub inserts_sha512 : (old new : State) (o : BlockOwner) (value : List ℕ) (coun
     → Leads old new (record (tables_of old) { sha512s = put_next (sha512_values o value) (tables_of old).sha512s }) × (list_any (is_sha512_of o) (tables_of old).sha512s ≡ false)
 inserts_sha512 old new o value count ours h =
     let made = inserts_next our_schema 9 12 sha512s_at insert_sha512_text (sha512_values o value) old new ours.schema ours.trees.ordered.1.1.1.1.1.1.1.1.1.0 count h _ insert_is (sha512_values o value)
-    (λ i. with_rowid Chosen (old.now.trees 12) (cast_null i ∷ cast_int (pos (kind_of o)) i ∷ cast_int (pos (number_of o)) i ∷ Blob value ∷ []) ∷ [])
-    (1 ∷ 2 ∷ []) key (is_sha512_of o) (two_agree (kind_of o) (number_of o) (Blob value ∷ [])) in
+    (λ i. with_rowid Chosen (old.now.trees 12) (cast_null i ∷ cast_int (pos (owner_kind o)) i ∷ cast_int (pos (owner_number o)) i ∷ Blob value ∷ []) ∷ [])
+    (1 ∷ 2 ∷ []) key (is_sha512_of o) (two_agree (owner_kind o) (owner_number o) (Blob value ∷ [])) in
     (leads old new 12 _ ours made.0 _ refl, made.1)
 
 pub delete_is : Deletes our_schema delete_sha512_text 9 12 of_owner

@@ -335,45 +335,45 @@ IsNumberRow = HasKinds number_kinds
 -- ---- blocks
 
 -- 0 of a file, 1 of an upload
-abbrev pub kind_of : BlockOwner → ℕ
-kind_of (File n) = 0
-kind_of (Upload n) = 1
+abbrev pub owner_kind : BlockOwner → ℕ
+owner_kind (File n) = 0
+owner_kind (Upload n) = 1
 
-abbrev pub number_of : BlockOwner → ℕ
-number_of (File n) = n
-number_of (Upload n) = n
+abbrev pub owner_number : BlockOwner → ℕ
+owner_number (File n) = n
+owner_number (Upload n) = n
 
 -- the kind of an owner and its number
 abbrev pub owner_values : BlockOwner → Row
-owner_values o = Int (pos (kind_of o)) ∷ Int (pos (number_of o)) ∷ []
+owner_values o = Int (pos (owner_kind o)) ∷ Int (pos (owner_number o)) ∷ []
 
 -- the kind of the owner, its number and the part
 abbrev pub part_values : BlockOwner → (part : ℕ) → Row
-part_values o part = Int (pos (kind_of o)) ∷ Int (pos (number_of o)) ∷ Int (pos part) ∷ []
+part_values o part = Int (pos (owner_kind o)) ∷ Int (pos (owner_number o)) ∷ Int (pos part) ∷ []
 
 -- the kind of the owner, its number, the part and the place
 abbrev pub key_values : BlockKey → Row
 key_values k =
-    Int (pos (kind_of k.owner)) ∷ Int (pos (number_of k.owner)) ∷ Int (pos k.at.part)
+    Int (pos (owner_kind k.owner)) ∷ Int (pos (owner_number k.owner)) ∷ Int (pos k.at.part)
     ∷ Int (pos k.at.place) ∷ []
 
 -- the key of a block, and its bytes at the end
 abbrev pub block_values : BlockKey → List ℕ → Row
 block_values k bytes =
-    Int (pos (kind_of k.owner)) ∷ Int (pos (number_of k.owner)) ∷ Int (pos k.at.part)
+    Int (pos (owner_kind k.owner)) ∷ Int (pos (owner_number k.owner)) ∷ Int (pos k.at.part)
     ∷ Int (pos k.at.place) ∷ Blob bytes ∷ []
 
 -- whose the blocks are, and whose they become
 abbrev pub move_values : (o to : BlockOwner) → Row
 move_values o to =
-    Int (pos (kind_of o)) ∷ Int (pos (number_of o)) ∷ Int (pos (kind_of to))
-    ∷ Int (pos (number_of to)) ∷ []
+    Int (pos (owner_kind o)) ∷ Int (pos (owner_number o)) ∷ Int (pos (owner_kind to))
+    ∷ Int (pos (owner_number to)) ∷ []
 
 -- the key that the blocks of its part stand before, and whose they become
 abbrev pub move_run_values : BlockKey → BlockOwner → Row
 move_run_values k to =
-    Int (pos (kind_of k.owner)) ∷ Int (pos (number_of k.owner)) ∷ Int (pos k.at.part)
-    ∷ Int (pos k.at.place) ∷ Int (pos (kind_of to)) ∷ Int (pos (number_of to)) ∷ []
+    Int (pos (owner_kind k.owner)) ∷ Int (pos (owner_number k.owner)) ∷ Int (pos k.at.part)
+    ∷ Int (pos k.at.place) ∷ Int (pos (owner_kind to)) ∷ Int (pos (owner_number to)) ∷ []
 
 abbrev pub place_values : BlockPlace → Row
 place_values p = Int (pos p.part) ∷ Int (pos p.place) ∷ []
@@ -420,7 +420,7 @@ by_falling_place a b = value_cmp (column b 0) (column a 0)
 
 -- a block of this owner
 abbrev pub is_block_of : BlockOwner → Row → Bool
-is_block_of o stored = has_number 1 (kind_of o) stored && has_number 2 (number_of o) stored
+is_block_of o stored = has_number 1 (owner_kind o) stored && has_number 2 (owner_number o) stored
 
 -- a block of this part of the owner
 abbrev pub is_part_of : BlockOwner → ℕ → Row → Bool
@@ -438,11 +438,11 @@ is_earlier_block k stored =
 -- the block with another owner
 abbrev pub moved_to : BlockOwner → Row → Row
 moved_to o stored =
-    column stored 0 ∷ Int (pos (kind_of o)) ∷ Int (pos (number_of o)) ∷ columns_from 3 3 stored
+    column stored 0 ∷ Int (pos (owner_kind o)) ∷ Int (pos (owner_number o)) ∷ columns_from 3 3 stored
 
 -- the number of the file or of the upload is one of SQL's
 abbrev pub IsStorableOwner : BlockOwner → Type 0
-IsStorableOwner o = number_of o < 2 ^ 63
+IsStorableOwner o = owner_number o < 2 ^ 63
 
 -- the number of the owner and the part are ones of SQL's
 pub record IsStorablePart (o : BlockOwner) (k : ℕ) : Type 0 where
@@ -459,11 +459,11 @@ pub record IsStorableKey (k : BlockKey) : Type 0 where
 
 -- the kind of the owner, its number, and the SHA-512
 abbrev pub sha512_values : BlockOwner → List ℕ → Row
-sha512_values o value = Int (pos (kind_of o)) ∷ Int (pos (number_of o)) ∷ Blob value ∷ []
+sha512_values o value = Int (pos (owner_kind o)) ∷ Int (pos (owner_number o)) ∷ Blob value ∷ []
 
 -- the row of this owner
 abbrev pub is_sha512_of : BlockOwner → Row → Bool
-is_sha512_of o stored = has_number 1 (kind_of o) stored && has_number 2 (number_of o) stored
+is_sha512_of o stored = has_number 1 (owner_kind o) stored && has_number 2 (owner_number o) stored
 
 -- a SHA-512 alone
 abbrev pub sha512_kinds : List ColumnKind

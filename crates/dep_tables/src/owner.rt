@@ -2,7 +2,7 @@
 
 ghost use Rattle.std.specs.Prelude.{◌≡◌, ◌↔◌, ◌+◌, ◌-◌, ◌<◌, ◌^◌, min, IsTrue};
 ghost use Rattle.sqlite.specs.Values.{bound};
-ghost use Rattle.dep_tables.specs.Rows.{kind_of, number_of, owner_values, key_values, IsStorableOwner, IsStorablePart, IsStorableKey, part_values};
+ghost use Rattle.dep_tables.specs.Rows.{owner_kind, owner_number, owner_values, key_values, IsStorableOwner, IsStorablePart, IsStorableKey, part_values};
 
 use crate::numbers::{LIMIT, number};
 use sqlite::types::ValueRef;
@@ -38,7 +38,7 @@ pub struct BlockKey {
 }
 
 fn kind_number(owner: BlockOwner) -> u64
-    ensures is { result ≡ kind_of owner }
+    ensures is { result ≡ owner_kind owner }
     ensures small { result < 2 }
 {
     match owner {
@@ -48,7 +48,7 @@ fn kind_number(owner: BlockOwner) -> u64
 }
 
 fn owner_number(owner: BlockOwner) -> u64
-    ensures { result ≡ number_of owner }
+    ensures { result ≡ owner_number owner }
 {
     match owner {
         BlockOwner::File(file) => file,

@@ -19,7 +19,7 @@ pub record IsChecked (config : Config) : Type 0 where
   pub limits : HasLimits config
 
 -- the number of each reason why a configuration is refused, 1 to 3
-abbrev pub fault_number : ConfigFault → ℕ
-fault_number Base = 1
-fault_number Limit = 2
-fault_number Memory = 3
+abbrev pub config_fault_number : ConfigFault → ℕ
+config_fault_number Base = 1
+config_fault_number Limit = 2
+config_fault_number Memory = 3

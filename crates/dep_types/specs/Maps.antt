@@ -1,5 +1,5 @@
 -- Maps by number and by name, and first refusals.
-use Rattle.std.specs.Prelude.{Bool, true, false, List, [], ◌∷◌, Option, Some, None}
+use Rattle.std.specs.Prelude.{Bool, true, false, List, [], ◌∷◌, Option, Some, None, option_map}
 use Rattle.std.specs.Ordering.{nat_cmp}
 use Rattle.std.specs.Cmp.Lexicographic.{slice_cmp}
 use Rattle.std.specs.Coded.{Coded, coded_ℕ, coded_list}
@@ -29,6 +29,11 @@ abbrev pub first_of : {X : Type 0} → List (Option X) → Option X
 first_of [] = None
 first_of (None ∷ rest) = first_of rest
 first_of (Some x ∷ rest) = Some x
+
+-- a value that has to be read where it is there
+abbrev pub optional : {X Y : Type 0} → (X → Option Y) → Option X → Option (Option Y)
+optional read None = Some None
+optional read (Some x) = option_map (λ y. Some y) (read x)
 
 -- the value, read on
 infixl 10 ◌>>=◌

@@ -64,6 +64,10 @@ empty_state = record {
 abbrev pub file_at : State → ℕ → ℕ → Option File
 file_at s n f = option_and_then (λ o. map.get o.files f) (map.get s.objects n)
 
+-- the state with an upload at this number
+abbrev pub with_upload : State → ℕ → Upload → State
+with_upload s u it = record s { uploads = map.insert s.uploads u it }
+
 -- the upload was left alone for longer than is allowed
 abbrev pub is_idle : Config → ℕ → Upload → Bool
 is_idle config clock u = nat_lt config.staging_max_idle (clock - u.last)

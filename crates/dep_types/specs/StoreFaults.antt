@@ -6,9 +6,9 @@ use Rattle.dep_types.specs.declared.stream_fault.StreamFault.{StreamFault}
 use Rattle.dep_types.specs.declared.stream_fault.StreamFault.TheVariants as stream
 
 -- numbers that follow those of the refusals
-abbrev pub fault_number : StoreFault → ℕ
-fault_number Store = 20
-fault_number Memory = 21
+abbrev pub store_fault_number : StoreFault → ℕ
+store_fault_number Store = 20
+store_fault_number Memory = 21
 
 -- the number of each failure to send a content, 1 to 4
 abbrev pub stream_fault_number : StreamFault → ℕ

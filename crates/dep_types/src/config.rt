@@ -58,11 +58,11 @@ pub enum ConfigFault {
 
 impl ConfigFault {
     ghost use Rattle.std.specs.Prelude.{◌≡◌};
-    ghost use Rattle.dep_types.specs.Config.{fault_number};
+    ghost use Rattle.dep_types.specs.Config.{config_fault_number};
 
     /// The number of the fault, 1 to 3.
     pub fn number(self) -> u8
-        ensures { result ≡ fault_number self }
+        ensures { result ≡ config_fault_number self }
     {
         match self {
             ConfigFault::Base => 1,

@@ -1,6 +1,6 @@
 //! Why the store did not do what it was asked.
 ghost use Rattle.std.specs.Prelude.{◌≡◌};
-ghost use Rattle.dep_types.specs.StoreFaults.{fault_number};
+ghost use Rattle.dep_types.specs.StoreFaults.{store_fault_number};
 
 use std::alloc::{AllocError, AllocFailed};
 use std::error::Error;
@@ -18,7 +18,7 @@ pub enum StoreFault {
 impl StoreFault {
     /// The number of the fault, behind those of the refusals: 20 or 21.
     pub fn number(self) -> u8
-        ensures { result ≡ fault_number self }
+        ensures { result ≡ store_fault_number self }
     {
         match self {
             StoreFault::Store => 20,

@@ -13,20 +13,20 @@ use Rattle.dep_tables.specs.Edits.{LacksSegmentRow}
 use Rattle.dep_tables.specs.Rows.{has_segment_key, segment_values, shown_segment}
 use Rattle.dep_tables.specs.Tables.{Tables}
 use Rattle.dep_tables.specs.declared.segments.SegmentRow.{SegmentRow}
-use Rattle.dep_row_maps.specs.Stored.{is_of, segment_row, segment_rows}
+use Rattle.dep_row_maps.specs.Stored.{is_row_of, segment_row, segment_rows}
 use Rattle.dep_row_maps.specs.TablesAre.{TablesAre, segments_at}
 use Rattle.dep_row_maps.proofs.Files.{number_itself}
 use Rattle.dep_row_maps.proofs.Owners.{none_permutation}
 use Rattle.dep_staging.proofs.Entries.{passed}
 
 -- the upload's rows have the number where none has the key
-none_shown : (row : SegmentRow) (rows : List Row) → list_any (has_segment_key row) rows ≡ false → filter (has_number 1 row.number) (map shown_segment (filter (is_of row.upload) rows)) ≡ []
+none_shown : (row : SegmentRow) (rows : List Row) → list_any (has_segment_key row) rows ≡ false → filter (has_number 1 row.number) (map shown_segment (filter (is_row_of row.upload) rows)) ≡ []
 none_shown row [] free = refl
-none_shown row (r ∷ rows) free = go (is_of row.upload r) refl (has_number 2 row.number r) refl free (none_shown row rows)
+none_shown row (r ∷ rows) free = go (is_row_of row.upload r) refl (has_number 2 row.number r) refl free (none_shown row rows)
   where
-    go : (a : Bool) → is_of row.upload r ≡ a → (b : Bool) → has_number 2 row.number r ≡ b → list_any (has_segment_key row) (r ∷ rows) ≡ false
-        → (list_any (has_segment_key row) rows ≡ false → filter (has_number 1 row.number) (map shown_segment (filter (is_of row.upload) rows)) ≡ [])
-        → filter (has_number 1 row.number) (map shown_segment (filter (is_of row.upload) (r ∷ rows))) ≡ []
+    go : (a : Bool) → is_row_of row.upload r ≡ a → (b : Bool) → has_number 2 row.number r ≡ b → list_any (has_segment_key row) (r ∷ rows) ≡ false
+        → (list_any (has_segment_key row) rows ≡ false → filter (has_number 1 row.number) (map shown_segment (filter (is_row_of row.upload) rows)) ≡ [])
+        → filter (has_number 1 row.number) (map shown_segment (filter (is_row_of row.upload) (r ∷ rows))) ≡ []
     go false is b of free more = simp is (more (rw is at free))
     go true is false of free more = simp (is, of) (more (rw (is, of) at free))
     go true is true of free more = absurd (let never = rw (is, of) at free in cc)

@@ -36,8 +36,8 @@ module _ (s : State) (u : ℕ) (by_reference : Bool) (state : UploadState) (o : 
   missing_reported e is = sym (e ∙ ap (λ (x : UploadState). missing_refusal (live_in x) (is_timed_out x)) is ∙ missing_seen by_reference s u)
 
 module _ (s : State) (u : ℕ) (state : UploadState) (o : Option Refusal) where
-  pub segments_reported : o ≡ seen.segments_refusal state → state ≡ state_seen true s u → segments_refusal (in_state s) u ≡ o
-  segments_reported e is = sym (e ∙ ap seen.segments_refusal is ∙ segments_seen s u)
+  pub segments_reported : o ≡ seen.live_segments_refusal state → state ≡ state_seen true s u → segments_refusal (in_state s) u ≡ o
+  segments_reported e is = sym (e ∙ ap seen.live_segments_refusal is ∙ segments_seen s u)
 
 -- ---- one after another
 

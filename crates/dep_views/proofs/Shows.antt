@@ -34,7 +34,7 @@ use Rattle.dep_tables.specs.Tables.{HasOurTables, tables_in}
 use Rattle.dep_tables.proofs.Chains.{clean_before, may_put, may_read, may_then, reads_ok}
 use Rattle.dep_tables.proofs.Results.{ok_then}
 use Rattle.dep_views.proofs.Found.{numbers_are}
-use Rattle.dep_views.specs.Shown.{MayFindRow, MayReadShown, ReadsShown, object_in, row_at}
+use Rattle.dep_views.specs.Shown.{MayFindRow, MayReadShown, ReadsShown, object_of_read_set, object_row_read}
 
 module _ {X Y Z : Type 0} (f : X → Y) (g : Y → Z) (z : Z) where
   pub some_shown : (o : Option X) (v : Y) → Some v ≡ option_map f o → g v ≡ option_map_or (λ x. g (f x)) o z
@@ -112,11 +112,11 @@ shown_at_once {lenders = lenders} {state = state} {tx = tx} it shows = record {
 
 -- by the row of the object, which is there, what is shown of it
 pub shown_by_row : {T L : Type 0} {lenders : T → L} {state : T → db.State} {old new : T} {r : Result Shown StoreFault} {a : ReadSet}
-    (by_number : ℕ → ReadSet) (n : ℕ) (row : ObjectRow) → ((s : State) → row_at s (by_number n) ≡ option_map (object_row n) (finmap.get s.objects n)) → a ≡ by_number n
+    (by_number : ℕ → ReadSet) (n : ℕ) (row : ObjectRow) → ((s : State) → object_row_read s (by_number n) ≡ option_map (object_row n) (finmap.get s.objects n)) → a ≡ by_number n
     → ReadsShown lenders state old new r (by_number row.object) (λ s. HasRow s row)
-    → MayReadShown lenders state old new r a (λ s. Some row ≡ row_at s a)
+    → MayReadShown lenders state old new r a (λ s. Some row ≡ object_row_read s a)
 shown_by_row {lenders = lenders} {state = state} {old = old} {new = new} {r = r} by_number n row there is reads =
-    subst (λ (x : ReadSet). MayReadShown lenders state old new r x (λ s. Some row ≡ row_at s x)) (sym is) (record {
+    subst (λ (x : ReadSet). MayReadShown lenders state old new r x (λ s. Some row ≡ object_row_read s x)) (sym is) (record {
       map = record {
         found = λ clean inside ours s are sound same.
             let it = same ∙ there s in
@@ -127,19 +127,19 @@ shown_by_row {lenders = lenders} {state = state} {old = old} {new = new} {r = r}
     })
 
 module _ (s : State) (a : ReadSet) where
-  pub row_at_number : (n : ℕ) → object_in a ≡ Some n → row_at s a ≡ option_map (object_row n) (finmap.get s.objects n)
+  pub row_at_number : (n : ℕ) → object_of_read_set a ≡ Some n → object_row_read s a ≡ option_map (object_row n) (finmap.get s.objects n)
   row_at_number n is = ap (λ o. option_and_then (λ k. option_map (object_row k) (finmap.get s.objects k)) o) is
 
-  pub no_row_at : object_in a ≡ None → None ≡ row_at s a
+  pub no_row_at : object_of_read_set a ≡ None → None ≡ object_row_read s a
   no_row_at is = sym (ap (λ o. option_and_then (λ k. option_map (object_row k) (finmap.get s.objects k)) o) is)
 
-  pub known_row_at : (known : Option ObjectRow) (row : ObjectRow) (n : ℕ) → known ≡ Some row → object_in a ≡ Some n → row.object ≡ n → IfSome known (HasRow s) → Some row ≡ row_at s a
+  pub known_row_at : (known : Option ObjectRow) (row : ObjectRow) (n : ℕ) → known ≡ Some row → object_of_read_set a ≡ Some n → row.object ≡ n → IfSome known (HasRow s) → Some row ≡ object_row_read s a
   known_row_at known row n knows is same has =
       subst (λ (k : ℕ). Some row ≡ option_map (object_row k) (finmap.get s.objects k)) same (subst (λ (o : Option ObjectRow). IfSome o (HasRow s)) knows has) ∙ sym (row_at_number n is)
 
 -- of an object nothing but its row
 pub row_shown : (s : State) (a : ReadSet) (row : ObjectRow) → ((n : ℕ) → a ≡ read_set.Object n → ⊥) → ((n : ℕ) → a ≡ read_set.Payload n → ⊥) → ((n : ℕ) → a ≡ read_set.Files n → ⊥)
-    → ((n : ℕ) → a ≡ read_set.Metadata n → ⊥) → Some row ≡ row_at s a → shown.ObjectRow row ≡ shown_at s a
+    → ((n : ℕ) → a ≡ read_set.Metadata n → ⊥) → Some row ≡ object_row_read s a → shown.ObjectRow row ≡ shown_at s a
 row_shown s (read_set.Object n) row object payload files metadata e = absurd (object n refl)
 row_shown s (read_set.Payload n) row object payload files metadata e = absurd (payload n refl)
 row_shown s (read_set.Files n) row object payload files metadata e = absurd (files n refl)
@@ -154,7 +154,7 @@ absent : (n : ℕ) (show : Object → Shown) (o : Option Object) → ◌≡◌ {
 absent n show None e = refl
 absent n show (Some x) e = absurd (cc)
 
-pub absent_shown : (s : State) (a : ReadSet) → ((id : FileId) → a ≡ read_set.File id → ⊥) → ((u : ℕ) → a ≡ read_set.Upload u → ⊥) → None ≡ row_at s a → shown.Nothing ≡ shown_at s a
+pub absent_shown : (s : State) (a : ReadSet) → ((id : FileId) → a ≡ read_set.File id → ⊥) → ((u : ℕ) → a ≡ read_set.Upload u → ⊥) → None ≡ object_row_read s a → shown.Nothing ≡ shown_at s a
 absent_shown s (read_set.Object n) file upload e = absent n _ (finmap.get s.objects n) e
 absent_shown s (read_set.Payload n) file upload e = absent n _ (finmap.get s.objects n) e
 absent_shown s (read_set.Files n) file upload e = absent n _ (finmap.get s.objects n) e
@@ -166,7 +166,7 @@ absent_shown s (read_set.Upload u) file upload e = absurd (upload u refl)
 
 -- what is shown behind the look at the row is shown of the state before it
 pub shown_behind_row : {T L : Type 0} {lenders : T → L} {state : T → db.State} {old mid new : T} {r : Result Shown StoreFault} {a : ReadSet} {known row read : Option ObjectRow}
-    → row ≡ read → MayFindRow lenders state old mid (Ok row) a known → MayReadShown lenders state mid new r a (λ s. read ≡ row_at s a)
+    → row ≡ read → MayFindRow lenders state old mid (Ok row) a known → MayReadShown lenders state mid new r a (λ s. read ≡ object_row_read s a)
     → MayReadShown lenders state old new r a (λ s. IfSome known (HasRow s))
 shown_behind_row {r = r} is first second = record {
   map = record {

@@ -37,27 +37,27 @@ module _ {T L : Type 0} (lenders : T → L) (state : T → db.State) (old new : 
         → OnOk result ((state new).now ≡ (state old).now)
 
 -- the number of the object that is shown, or of which a part is
-abbrev pub object_in : ReadSet → Option ℕ
-object_in (read_set.Object n) = Some n
-object_in (read_set.Payload n) = Some n
-object_in (read_set.Files n) = Some n
-object_in (read_set.ObjectRow n) = Some n
-object_in (read_set.Metadata n) = Some n
-object_in read_set.Nothing = None
-object_in (read_set.File id) = None
-object_in (read_set.Upload u) = None
+abbrev pub object_of_read_set : ReadSet → Option ℕ
+object_of_read_set (read_set.Object n) = Some n
+object_of_read_set (read_set.Payload n) = Some n
+object_of_read_set (read_set.Files n) = Some n
+object_of_read_set (read_set.ObjectRow n) = Some n
+object_of_read_set (read_set.Metadata n) = Some n
+object_of_read_set read_set.Nothing = None
+object_of_read_set (read_set.File id) = None
+object_of_read_set (read_set.Upload u) = None
 
 -- its row, if there is such an object
-abbrev pub row_at : State → ReadSet → Option ObjectRow
-row_at s read_set =
-    option_and_then (λ n. option_map (object_row n) (finmap.get s.objects n)) (object_in read_set)
+abbrev pub object_row_read : State → ReadSet → Option ObjectRow
+object_row_read s read_set =
+    option_and_then (λ n. option_map (object_row n) (finmap.get s.objects n)) (object_of_read_set read_set)
 
 -- what a call does that looks up this row where it isn't known, if anything
 pub record MayFindRow {T L : Type 0} (lenders : T → L) (state : T → db.State) (old new : T)
     (result : Result (Option ObjectRow) StoreFault) (read_set : ReadSet) (known : Option ObjectRow)
     : Type 0 where
   pub map : FromMaps (state old) (state new)
-      (λ s. IfSome known (HasRow s) → IfOk result (λ row. row ≡ row_at s read_set))
+      (λ s. IfSome known (HasRow s) → IfOk result (λ row. row ≡ object_row_read s read_set))
   pub keeps : MayReadWithin lenders state old new result
   pub still : HasCleanDisk (state new) → IsOurs (state old)
       → OnOk result ((state new).now ≡ (state old).now)

@@ -3,7 +3,7 @@
 ghost use Rattle.std.specs.Prelude.{◌≡◌, ⊤, Some, None, IfSome};
 ghost use Rattle.dep_answers.specs.declared.read_set.ReadSet.TheVariants as read_set;
 ghost use Rattle.dep_objects.specs.Objects.{HasRow};
-ghost use Rattle.dep_views.specs.Shown.{MayFindRow, MayReadShown, ReadsShown, object_in, row_at};
+ghost use Rattle.dep_views.specs.Shown.{MayFindRow, MayReadShown, ReadsShown, object_of_read_set, object_row_read};
 
 use crate::objects::view_of;
 use crate::segments::numbers_of;
@@ -98,7 +98,7 @@ fn show_texts<T: Statements>(tx: &mut T, alloc: Global, row: ObjectRow) -> Resul
 
 // The number of the object that is shown, or of which a part is.
 fn object_in(read_set: &ReadSet) -> Option<u64>
-    ensures { result ≡ object_in read_set.now }
+    ensures { result ≡ object_of_read_set read_set.now }
 {
     match *read_set {
         ReadSet::Object(object)
@@ -133,7 +133,7 @@ fn show_object<T: Statements>(
     row: ObjectRow,
 ) -> Result<Shown, StoreFault>
     ensures does { MayReadShown T.lenders T.state tx.old tx.new result read_set.now
-        (λ s. Some row ≡ row_at s read_set.now) }
+        (λ s. Some row ≡ object_row_read s read_set.now) }
 {
     match *read_set {
         ReadSet::Object(_) => show_rest(tx, alloc, row),
@@ -151,7 +151,7 @@ fn show_other<T: Statements>(
     read_set: &ReadSet,
 ) -> Result<Shown, StoreFault>
     ensures does { MayReadShown T.lenders T.state tx.old tx.new result read_set.now
-        (λ s. None ≡ row_at s read_set.now) }
+        (λ s. None ≡ object_row_read s read_set.now) }
 {
     match *read_set {
         ReadSet::File(id) => show_file(tx, id),

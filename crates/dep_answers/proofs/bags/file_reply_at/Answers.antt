@@ -1,7 +1,7 @@
 use Rattle.std.proofs.Common.{◌∙◌, sym, ap, bytes_eq, None, Some}
 use Rattle.dep_types.specs.declared.rows.FileRow.{FileRow}
 use Rattle.dep_manifest.specs.Reported.{row_path}
-use Rattle.dep_answers.specs.Answers.{answer, shown_file}
+use Rattle.dep_answers.specs.Answers.{answer, file_reply}
 use Rattle.dep_answers.specs.Reported.{bag_answer}
 use Rattle.dep_answers.proofs.NumberedReplies.{there_answer, elsewhere_answer}
 use Rattle.dep_answers.proofs.ShownReplies.{nothing_said, says_as, says_row}
@@ -10,7 +10,7 @@ use Rattle.dep_answers.proofs.bags.file_reply_at.Goals as goal
 pub returns-in_ok-stored_reply-clause-says : goal.returns-in_ok-stored_reply-clause-says
 returns-in_ok-stored_reply-clause-says c = λ s n f it sound of there is.
     let at = ap (λ (r : FileRow). bytes_eq c.args.path.now (row_path r)) (sym is) ∙ sym c.is_payload_path.ensures ∙ c.if-is_payload_path.true in
-    says_as s (answer 200 (Some (shown_file n f it)) None None) (bag_answer s n c.args.path.now) c.args.delivery (Some _)
+    says_as s (answer 200 (Some (file_reply n f it)) None None) (bag_answer s n c.args.path.now) c.args.delivery (Some _)
     (there_answer c.args.path.now f of s sound n it there at)
     (says_row c.args.row.now None c.args.delivery _ c.in_ok-stored_reply.ensures.says s n f it there is)
 

@@ -8,7 +8,7 @@ use Rattle.dep_tables.specs.Tables.{tables_of}
 use Rattle.dep_row_maps.specs.TablesAre.{with_object}
 use Rattle.dep_row_maps.proofs.Changing.{changes_then, does_failed, inside_after}
 use Rattle.dep_row_maps.proofs.Lens.{get_here}
-use Rattle.dep_decisions.specs.Effects.{with_files, with_texts}
+use Rattle.dep_decisions.specs.Effects.{with_other_files, with_other_texts}
 use Rattle.dep_decisions.specs.declared.decision.Deposit.TheVariants.{Files}
 use Rattle.dep_decisions.specs.declared.decision.NewFile.{NewFile}
 use Rattle.dep_changes.specs.Clauses.{Appends}
@@ -28,7 +28,7 @@ returns-in-Files g c = record {
       (record {
         done = λ it clean inside ours s are reported.
             let before = inside_after c.in_ok-put_object.ensures.does.keeps c.put_new_files.ensures.map.keeps.stays clean inside ours in
-            let mark : Object = with_files s it.files it in
+            let mark : Object = with_other_files s it.files it in
             let put = row_put (tables_of (g.T.Statements.state c.put_object.new.tx)) s change.view.now change.content.now row c.added_to.result c.args.numbered.now.deposit.now c.added_to.ensures _ c.in-Files.is it mark reported.1 reported.0.0 refl refl refl
             (c.in_ok-put_object.ensures.does.map before.clean inside ours s are mark) in
             ok_then c.put_new_files.result
@@ -49,12 +49,12 @@ returns-in-Metadata g c = record {
       (record {
         done = λ it clean inside ours s are reported.
             let before = inside_after c.in_ok-put_object.ensures.does.keeps c.append_metadata.ensures.does.keeps.stays clean inside ours in
-            let mark : Object = with_texts s it.metadata it in
+            let mark : Object = with_other_texts s it.metadata it in
             let put = row_put (tables_of (g.T.Statements.state c.put_object.new.tx)) s change.view.now change.content.now row c.added_to.result c.args.numbered.now.deposit.now c.added_to.ensures _ c.in-Metadata.is it mark reported.1 reported.0.0 refl refl refl
             (c.in_ok-put_object.ensures.does.map before.clean inside ours s are mark) in
             ok_then c.append_metadata.result
             (c.append_metadata.ensures.does.map clean before.inside before.ours (with_object s row.object mark) put mark (get_here s.objects row.object mark))
-            (λ added. written_again (tables_of (g.T.Statements.state c.append_metadata.new.tx)) s row.object mark (with_texts s (joined (finmap.entries texts) it.metadata) it) added);
+            (λ added. written_again (tables_of (g.T.Statements.state c.append_metadata.new.tx)) s row.object mark (with_other_texts s (joined (finmap.entries texts) it.metadata) it) added);
         keeps = changes_then c.in_ok-put_object.ensures.does.keeps c.append_metadata.ensures.does.keeps;
       }));
 }

@@ -4,7 +4,7 @@ use Rattle.std.specs.FinMap as finmap
 use Rattle.dep_types.specs.Rows.{object_row}
 use Rattle.dep_types.specs.declared.counters.Counters.{Counters}
 use Rattle.dep_decisions.specs.Decisions.{numbers_for}
-use Rattle.dep_decisions.specs.Effects.{added, blank, ingested_by}
+use Rattle.dep_decisions.specs.Effects.{files_added, blank, ingested_by}
 use Rattle.dep_decisions.specs.declared.decision.Decision.{Decision}
 use Rattle.dep_changes.specs.Reported.{IsSource}
 use Rattle.dep_changes.proofs.Carried.{room_of_files}
@@ -55,7 +55,7 @@ pub returns-in_ok-row-in-SetFiles : goal.returns-in_ok-row-in-SetFiles
 returns-in_ok-row-in-SetFiles c = record {
   reported = λ s it. known_of s c.args.view.now c.args.content.now c.args.decision.now _ c.in-SetFiles.is _ it (λ numbers has.
       let row = c.in_ok-row-in-SetFiles in
-      let set = added s c.args.content.now c.in-SetFiles.files finmap.empty in
+      let set = files_added s c.args.content.now c.in-SetFiles.files finmap.empty in
       files_known s c.args.content.now c.in-SetFiles.object has.0 has.1.1 c.in-SetFiles.files c.files_changed.result
       (files_row s c.in-SetFiles.object has.0 c.args.view.now.object has.1.0 row.row row.ensures.reported c.args.view.now.clock c.args.view.now.next numbers.0 numbers.1 c.files_changed.result set c.files_changed.ensures));
 }

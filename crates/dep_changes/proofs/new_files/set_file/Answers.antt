@@ -7,10 +7,10 @@ use Rattle.dep_tables.specs.Tables.{tables_of}
 use Rattle.dep_tables.proofs.Results.{ok_then}
 use Rattle.dep_row_maps.specs.TablesAre.{TablesAre, with_object}
 use Rattle.dep_row_maps.proofs.Lens.{get_here}
-use Rattle.dep_decisions.specs.Effects.{bytes_from, file_from, with_files}
-use Rattle.dep_decisions.specs.declared.decision.Source.{Source}
+use Rattle.dep_decisions.specs.Effects.{bytes_from, file_from, with_other_files}
+use Rattle.dep_decisions.specs.declared.decision.ContentSource.{ContentSource}
 use Rattle.dep_changes.proofs.Carried.{at_object}
-use Rattle.dep_changes.specs.Changed.{made_file, with_new_file}
+use Rattle.dep_changes.specs.Changed.{made_file, with_deposited_file}
 use Rattle.dep_changes.specs.Reported.{IsSource}
 use Rattle.dep_changes.proofs.Steps.{number_is, at_number, there_at, written_again, file_replaced, files_marked}
 use Rattle.dep_row_maps.proofs.Changing.{changes_then, does_failed, inside_after}
@@ -33,23 +33,23 @@ returns g c = record {
             let source = reported.1.3 in
             let row = c.in_ok-row.row in
             let number = number_is s n o view.object object.0 row c.in_ok-row.ensures.reported in
-            let mark : Object = with_files s o.files o in
+            let mark : Object = with_other_files s o.files o in
             let put = files_marked (tables_of (g.T.Statements.state c.put_object.new.tx)) s n o view object reported.0 row c.in_ok-row.ensures.reported c.files_changed.result c.files_changed.ensures
             (c.in_ok-put_object.ensures.does.map one.clean inside ours s are mark) in
             let first : State = with_object s n mark in
-            let left : Object = with_files s (finmap.remove o.files f) o in
+            let left : Object = with_other_files s (finmap.remove o.files f) o in
             let gone = written_again (tables_of (g.T.Statements.state c.delete_file.new.tx)) s n mark left
             (c.in_ok-delete_file.ensures.does.map two.clean one.inside one.ours first put n mark reported.1.1 (get_here s.objects n mark) reported.1.2.1) in
             let second : State = with_object s n left in
             let made : File = made_file s as_new content in
-            let it : Object = with_files s (finmap.insert (finmap.remove o.files f) f made) o in
-            at_object s s.uploads new c.put_new_file.result n o (λ (x : Object). with_files s (finmap.insert x.files f (file_from s content as_new)) x) object.1
+            let it : Object = with_other_files s (finmap.insert (finmap.remove o.files f) f made) o in
+            at_object s s.uploads new c.put_new_file.result n o (λ (x : Object). with_other_files s (finmap.insert x.files f (file_from s content as_new)) x) object.1
             (ok_then c.put_new_file.result
             (c.put_new_file.ensures.map.done left clean two.inside two.ours second gone
             ((reported.0, subst (IsSource second content (slice_get view.uploads 0)) (sym source) refl), there_at second.objects row.object n left number (get_here s.objects n left)))
             (λ there.
-            let posted = subst (λ (from : Source). TablesAre (tables_of new) (with_new_file second row.object left f (made_file second as_new (bytes_from second content from)) from)) source there in
-            subst (λ (from : Source). TablesAre (tables_of new) (with_object s n (with_files s (finmap.insert o.files f (made_file s as_new (bytes_from s content from))) o))) (sym source)
+            let posted = subst (λ (from : ContentSource). TablesAre (tables_of new) (with_deposited_file second row.object left f (made_file second as_new (bytes_from second content from)) from)) source there in
+            subst (λ (from : ContentSource). TablesAre (tables_of new) (with_object s n (with_other_files s (finmap.insert o.files f (made_file s as_new (bytes_from s content from))) o))) (sym source)
             (file_replaced (tables_of new) s n o f made (written_again (tables_of new) s n left it (at_number (tables_of new) second row.object n it number posted)))));
         keeps = changes_then (changes_then c.in_ok-put_object.ensures.does.keeps c.in_ok-delete_file.ensures.does.keeps) c.put_new_file.ensures.map.keeps;
       };

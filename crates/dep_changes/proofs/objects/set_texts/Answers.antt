@@ -4,7 +4,7 @@ use Rattle.dep_tables.specs.Tables.{tables_of}
 use Rattle.dep_tables.proofs.Results.{ok_then}
 use Rattle.dep_row_maps.specs.TablesAre.{with_object}
 use Rattle.dep_row_maps.proofs.Lens.{get_here}
-use Rattle.dep_decisions.specs.Effects.{with_texts}
+use Rattle.dep_decisions.specs.Effects.{with_other_texts}
 use Rattle.dep_changes.proofs.Carried.{at_object}
 use Rattle.dep_changes.proofs.Steps.{number_is, at_number, there_at, written_again, texts_marked}
 use Rattle.dep_row_maps.proofs.Changing.{changes_then, does_failed, inside_after}
@@ -23,14 +23,14 @@ returns g c = record {
             let object = reported.1.1 in
             let row = c.in_ok-row.row in
             let number = number_is s n o view.object object.0 row c.in_ok-row.ensures.reported in
-            let mark : Object = with_texts s o.metadata o in
+            let mark : Object = with_other_texts s o.metadata o in
             let put = texts_marked (tables_of (g.T.Statements.state c.put_object.new.tx)) s n o view object reported.0 row c.in_ok-row.ensures.reported c.texts_changed.result c.texts_changed.ensures
             (c.in_ok-put_object.ensures.does.map before.clean inside ours s are mark) in
             let one : State = with_object s n mark in
-            at_object s s.uploads new c.set_metadata.result n o (with_texts s texts) object.1
+            at_object s s.uploads new c.set_metadata.result n o (with_other_texts s texts) object.1
             (ok_then c.set_metadata.result
             (c.set_metadata.ensures.does.map clean before.inside before.ours one put mark (there_at one.objects row.object n mark number (get_here s.objects n mark)))
-            (λ set. written_again (tables_of new) s n mark (with_texts s texts o) (at_number (tables_of new) one row.object n (with_texts s texts o) number set)));
+            (λ set. written_again (tables_of new) s n mark (with_other_texts s texts o) (at_number (tables_of new) one row.object n (with_other_texts s texts o) number set)));
         keeps = changes_then c.in_ok-put_object.ensures.does.keeps c.set_metadata.ensures.does.keeps;
       };
 }

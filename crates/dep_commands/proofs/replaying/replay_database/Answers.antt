@@ -1,7 +1,7 @@
 use Rattle.std.proofs.Common.{◌≡◌, ◌∙◌, refl, sym, subst, of_calls}
 use Rattle.sqlite.specs.Held.{Held, state}
 use Rattle.sqlite.specs.State.{HasCleanDisk}
-use Rattle.dep_store.specs.HashingStores.{condition_of}
+use Rattle.dep_store.specs.HashingStores.{condition_with_hashes}
 use Rattle.dep_types.specs.Config.{IsChecked}
 use Rattle.dep_types.specs.declared.config.Config.{Config}
 use Rattle.dep_connection.specs.Conversation.{session}
@@ -27,7 +27,7 @@ returns-in-Ok-open_hub-clause-replays g c none clean =
     let run = c.serve_connection-served in
     let before = wire_of g.R.Inlet g.W.Outlet g.W.Flush.held g.W.Flush.has_failed c.args.reader.now c.args.writer.now in
     let after = wire_of g.R.Inlet g.W.Outlet g.W.Flush.held g.W.Flush.has_failed run.new.reader run.new.writer in
-    let honest : IsHonest (condition_of g.S.Store) run.new.hub = subst (λ (h : Held _). HasCleanDisk (state g.S.Store h)) c.close_hub.ensures clean in
+    let honest : IsHonest (condition_with_hashes g.S.Store) run.new.hub = subst (λ (h : Held _). HasCleanDisk (state g.S.Store h)) c.close_hub.ensures clean in
     subst (λ (o : Outcome). Replays c.args.setting.base.now c.args.setting.moment before after o) (sym c.outcome_of.ensures)
     (comes_to _ _ _ _ c.args.setting.moment (λ f. f.0 ≡ c.args.setting.moment) (λ before after m p e. ((search of_calls), (search of_calls)))
     c.args.setting.base.now (session c.in-Ok-open_hub.hub before _) (session run.new.hub after _)

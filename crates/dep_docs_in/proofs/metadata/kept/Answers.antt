@@ -3,7 +3,7 @@ use Rattle.std.proofs.lemmas.Result.{err_from_is_err_and}
 use Rattle.serde_json.specs.View.{view, members_view}
 use Rattle.dep_types.specs.Names.{is_kept_name}
 use Rattle.dep_docs_in.specs.Documents.{kept_texts}
-use Rattle.dep_docs_in.specs.Faults.{Fails}
+use Rattle.dep_docs_in.specs.Faults.{IsUnreadable}
 use Rattle.dep_docs_in.proofs.Keeping.{member_kept, member_passed, member_fails}
 use Rattle.dep_docs_in.proofs.metadata.kept.Goals as goal
 
@@ -19,7 +19,7 @@ returns-in_err-keep c =
     let is = ap is_kept_name (sym c.as_bytes.ensures.value) ∙ sym c.is_kept_name.ensures ∙ c.if-is_kept_name.true in
     let p = err_from_is_err_and c.from_residual.result c.from_residual.ensures.1 in
     let so_far = c.loop-name.invariant ∙ ap (λ l. kept_texts c.loop-name.metadata (members_view l)) c.in-Some.ensures.steps in
-    rw (p.1, p.2) (subst (Fails _) (sym so_far)
+    rw (p.1, p.2) (subst (IsUnreadable _) (sym so_far)
     (member_fails (string_bytes c.in-Some.name.now) (view c.in-Some.value.now) c.loop-name.metadata (members_view c.next.new.self) _ is (rw c.deref.ensures at c.in_err-keep.ensures)))
 
 pub loop-name-preserved : goal.loop-name-preserved

@@ -2,7 +2,7 @@ use Rattle.std.proofs.Common.{◌∙◌, sym, ap, subst, Some, Err, option_and_t
 use Rattle.std.proofs.lemmas.Result.{err_from_is_err_and}
 use Rattle.serde_json.specs.Find.{as_str, get}
 use Rattle.serde_json.specs.View.{view}
-use Rattle.dep_docs_in.specs.Faults.{Gives}
+use Rattle.dep_docs_in.specs.Faults.{GivesRead}
 use Rattle.dep_docs_in.specs.Documents.{name_of}
 use Rattle.dep_docs_in.proofs.Names.{name-is, unread}
 use Rattle.dep_docs_in.proofs.references.name_of.Goals as goal
@@ -21,4 +21,4 @@ unfolding name_of
 returns c =
     let there = option_and_then as_str (get (codes "contentDisposition") (view c.args.entry.now)) in
     let text = sym c.in-Some.ensures ∙ ap Some (sym c.as_bytes.ensures.value) in
-    subst (Gives c.attachment_name.result) (sym (name-is there c.as_bytes.result.now c.in_ok-disposition.disposition text c.in_ok-disposition.ensures.read.0 c.in_ok-disposition.ensures.read.1)) c.attachment_name.ensures
+    subst (GivesRead c.attachment_name.result) (sym (name-is there c.as_bytes.result.now c.in_ok-disposition.disposition text c.in_ok-disposition.ensures.read.0 c.in_ok-disposition.ensures.read.1)) c.attachment_name.ensures

@@ -1,5 +1,5 @@
 use Rattle.std.proofs.Common.{refl, sym, ap, ◌∙◌, take_all}
-use Rattle.dep_hub.specs.Numbers.{index_of}
+use Rattle.dep_hub.specs.Numbers.{place_of_number}
 use Rattle.dep_hub.proofs.ConnectionLemmas.{found_at, none_so_far}
 use Rattle.dep_hub.proofs.connections.index_among.Goals as goal
 
@@ -17,4 +17,4 @@ loop-i-preserved c =
     (λ e. c.if-connection-id.false (e ∙ sym c.id.view_is))
 
 pub returns-clause-value : goal.returns-clause-value
-returns-clause-value c = sym c.loop-i.invariant ∙ ap (index_of c.args.id) (take_all c.loop-i.i c.args.connections.now c.loop-i-test.false)
+returns-clause-value c = sym c.loop-i.invariant ∙ ap (place_of_number c.args.id) (take_all c.loop-i.i c.args.connections.now c.loop-i-test.false)

@@ -7,7 +7,7 @@ use Rattle.dep_row_maps.specs.Clauses.{SeesState}
 use Rattle.dep_row_maps.proofs.Changing.{changes_err, changes_ok, changes_put}
 use Rattle.dep_requests.proofs.Stepping.{delivered, refused_then, accepted_then}
 use Rattle.sqlite.proofs.StateLemmas.{unchanged}
-use Rattle.dep_requests.specs.Performing.{OnlyReads, SeesFor}
+use Rattle.dep_requests.specs.Performing.{AsksToBeShown, SeesFor}
 use Rattle.dep_requests.proofs.performing.follow.Goals as goal
 
 pub returns-in-Refuse-clause-map : goal.returns-in-Refuse-clause-map
@@ -47,4 +47,4 @@ returns-in-Refuse-clause-unchanged g c only is_open clean ours = if_ok c.refused
 
 pub returns-in_ok-shown-in-Do-clause-unchanged : goal.returns-in_ok-shown-in-Do-clause-unchanged
 returns-in_ok-shown-in-Do-clause-unchanged g c only is_open clean ours =
-    if_ok c.accept-performed.result (c.in_ok-shown-in-Do.ensures.unchanged (subst (λ (r : Ruling). OnlyReads r) c.in-Do.is only) is_open clean ours)
+    if_ok c.accept-performed.result (c.in_ok-shown-in-Do.ensures.unchanged (subst (λ (r : Ruling). AsksToBeShown r) c.in-Do.is only) is_open clean ours)

@@ -4,7 +4,7 @@ use Rattle.std.proofs.lemmas.Result.{IfOk-weaker}
 use Rattle.sqlite.specs.Held.{state}
 use Rattle.sqlite.specs.declared.transaction.Transaction.{Transaction}
 use Rattle.dep_requests.specs.Caching.{is_plain_read}
-use Rattle.dep_requests.specs.Performing.{IsDone, KeepsRunning}
+use Rattle.dep_requests.specs.Performing.{IsDone, KeepsRunningHashes}
 use Rattle.dep_requests.specs.declared.performing.Done.{Done}
 use Rattle.dep_schema.specs.OpenTables.{StaysOn}
 use Rattle.dep_schema.proofs.Asking.{lent_name, stays_on}
@@ -35,7 +35,7 @@ returns g c =
     let same : c.answer_operation-2.new.tx.tx.now ≡ c.tx-2-1.given.0 = sym (c.tx-2-1.given.1 (lent_name g.S.Store reported.stays)) in
     record {
       does = subst (λ (tx : Transaction g.row.S.Denot). IfOk c.answer_operation-2.result (IsDone (state g.S.Store c.args.tx.now.conn.now) (state g.S.Store tx.conn.now) c.args.service.now c.args.operation.now c.args.running.now)) same reported.does;
-      running = subst (λ (tx : Transaction g.row.S.Denot). KeepsRunning (state g.S.Store c.args.tx.now.conn.now) (state g.S.Store tx.conn.now) c.args.running.now c.answer_operation-2.new.running) same reported.running;
+      running = subst (λ (tx : Transaction g.row.S.Denot). KeepsRunningHashes (state g.S.Store c.args.tx.now.conn.now) (state g.S.Store tx.conn.now) c.args.running.now c.answer_operation-2.new.running) same reported.running;
       plain = λ reads. absurd (both_ways (is_plain_read c.args.operation.now) (sym c.is_plain_read.ensures ∙ c.if-is_plain_read.false) reads);
       stays = subst (λ (tx : Transaction g.row.S.Denot). StaysOn g.S.Store c.args.tx.now.conn tx.conn c.answer_operation-2.result) same (stays_on g.S.Store reported.stays);
     }

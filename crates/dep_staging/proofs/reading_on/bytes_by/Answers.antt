@@ -3,7 +3,7 @@ use Rattle.std.proofs.lemmas.Result.{IfOk-from_err}
 use Rattle.dep_tables.specs.Tables.{Tables}
 use Rattle.dep_tables.proofs.Chains.{may_put, may_ok, may_then, may_read, may_err}
 use Rattle.dep_files.proofs.Behind.{behind_any}
-use Rattle.dep_staging.specs.NextBytes.{Grows}
+use Rattle.dep_staging.specs.NextBytes.{GrowsAsRead}
 use Rattle.dep_staging.proofs.NextBytes.{ended_front, front_grows, longer, nothing_first, some_front}
 use Rattle.dep_staging.proofs.reading_on.bytes_by.Goals as goal
 
@@ -23,7 +23,7 @@ loop-round-preserved g c =
       may_ok (may_then inv.1 (may_read c.in_ok-append_next.ensures.does.keeps)),
       λ is_open clean ours s h all is.
           let mid = behind_any inv.1 c.append_next.ensures.does.keeps.stays is_open clean ours s h in
-          let grows = subst (λ (t : Tables). Grows t s c.args.file c.args.size c.args.start c.loop-round.bytes c.append_next.new.bytes c.in_ok-append_next.field-0) mid.tables
+          let grows = subst (λ (t : Tables). GrowsAsRead t s c.args.file c.args.size c.args.start c.loop-round.bytes c.append_next.new.bytes c.in_ok-append_next.field-0) mid.tables
           (c.in_ok-append_next.ensures.does.map clean mid.ours s mid.are) h all is in
           let so_far = inv.2 is_open mid.clean ours s h all is in (
             front_grows all c.args.start c.loop-round.bytes.items c.append_next.new.bytes.items c.in_ok-append_next.field-0 so_far.0 grows,
@@ -37,7 +37,7 @@ returns-then-not-branch g c = record {
   does = record {
     map = λ is_open clean ours s are h all is.
         let mid = behind_any c.loop-round.invariant.1 c.append_next.ensures.does.keeps.stays is_open clean ours s h in
-        let grows = subst (λ (t : Tables). Grows t s c.args.file c.args.size c.args.start c.loop-round.bytes c.append_next.new.bytes c.in_ok-append_next.field-0) mid.tables
+        let grows = subst (λ (t : Tables). GrowsAsRead t s c.args.file c.args.size c.args.start c.loop-round.bytes c.append_next.new.bytes c.in_ok-append_next.field-0) mid.tables
         (c.in_ok-append_next.ensures.does.map clean mid.ours s mid.are) h all is in
         let so_far = c.loop-round.invariant.2 is_open mid.clean ours s h all is in
         ended_front all c.args.start c.loop-round.bytes.items c.append_next.new.bytes.items c.in_ok-append_next.field-0 c.if-not-branch.true so_far.0 (omega (arith, so_far.2, c.loop-round-test.true)) grows;

@@ -5,7 +5,8 @@ use Rattle.dep_tables.specs.Rows.{has_segment_key}
 use Rattle.dep_tables.specs.Tables.{Tables, tables_of}
 use Rattle.dep_tables.proofs.Results.{if_ok}
 use Rattle.dep_tables.proofs.Chains.{clean_before, stays_then}
-use Rattle.dep_row_maps.specs.TablesAre.{TablesAre, with_upload}
+use Rattle.dep_types.specs.State.{with_upload}
+use Rattle.dep_row_maps.specs.TablesAre.{TablesAre}
 use Rattle.dep_row_maps.proofs.Lens.{get_here, insert_twice}
 use Rattle.dep_uploads.proofs.Lacking.{lacked}
 use Rattle.dep_staging.proofs.UploadCalls.{received, received_into}

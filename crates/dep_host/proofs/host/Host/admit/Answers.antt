@@ -3,7 +3,7 @@ use Rattle.std.specs.Io.KnownBytes.{IsAtEnd}
 use Rattle.dep_exchange.specs.Records.{Live}
 use Rattle.dep_hub.specs.Holding.{LineTransition}
 use Rattle.dep_outbox.specs.Wires.{reported}
-use Rattle.dep_slot.specs.Notes.{Grows, LetIn}
+use Rattle.dep_slot.specs.Notes.{GrowsWhereShown, LetIn}
 use Rattle.dep_slot.specs.declared.log.Rejection.{Rejection}
 use Rattle.dep_slot.specs.declared.log.Rejection.TheVariants.{Address}
 use Rattle.dep_host.specs.Meeting.{MayRefuse}
@@ -59,5 +59,5 @@ returns g c = record {
   writable = c.new.ensures.writable;
   room = omega (arith, c.slots_from.ensures, c.if-slots_from-self.false);
   stays = stays_set _ _ c.args.at _ refl refl refl refl refl;
-  noted = subst (λ n. Grows (g.L.HostLog.notes c.args.log.now) (g.L.HostLog.notes c.opened.new.self) (LetIn n c.args.client.address ∷ [])) (sym c.new.ensures.number) c.opened.ensures.noted;
+  noted = subst (λ n. GrowsWhereShown (g.L.HostLog.notes c.args.log.now) (g.L.HostLog.notes c.opened.new.self) (LetIn n c.args.client.address ∷ [])) (sym c.new.ensures.number) c.opened.ensures.noted;
 }

@@ -1,6 +1,6 @@
 use Rattle.std.proofs.Common.{◌≡◌, ◌==◌, ℕ, Bool, if◌then◌else◌, refl, sym, ap, subst, ◌∙◌, List, [], None}
 use Rattle.std.proofs.lemmas.Bool.{eq-eqb}
-use Rattle.dep_hub.specs.Numbers.{index_of, Ascends}
+use Rattle.dep_hub.specs.Numbers.{place_of_number, Ascends}
 use Rattle.dep_exchange.specs.Records.{Close}
 use Rattle.dep_hub.specs.Representing.{intake_of}
 use Rattle.dep_hub.specs.declared.connections.Connection.{Connection}
@@ -15,7 +15,7 @@ use Rattle.dep_hub.proofs.hub.Hub.close.Goals as goal
 -- it is taken out
 pub returns-in-Some : goal.returns-in-Some
 returns-in-Some g c =
-    let index = ap (index_of c.args.connection) (sym c.as_slice.ensures.value) ∙ sym c.in-Some.ensures.value in
+    let index = ap (place_of_number c.args.connection) (sym c.as_slice.ensures.value) ∙ sym c.in-Some.ensures.value in
     let gone : (m : ℕ) → intake_of c.remove.new.self.items m ≡ (if m == c.args.connection then None else intake_of c.args.self.now.connections.items m) =
     λ m. ap (λ (cs : List Connection). intake_of cs m) c.remove.ensures.items ∙ intake_remove c.args.connection 0 c.args.self.now.next c.in-Some.i c.args.self.now.connections.items index c.args.self.now.ascends m in
     let moves = closes_moves g.A.Archive.condition c.args.self.now _ refl c.args.connection refl gone in
@@ -38,7 +38,7 @@ returns-in-Some g c =
 -- there is no such connection
 pub returns-in_default : goal.returns-in_default
 returns-in_default g c =
-    let none = index_none c.args.connection c.args.self.now.connections.items (ap (index_of c.args.connection) (sym c.as_slice.ensures.value) ∙ (sym c.index_among.ensures.value ∙ c.in_default.is)) in
+    let none = index_none c.args.connection c.args.self.now.connections.items (ap (place_of_number c.args.connection) (sym c.as_slice.ensures.value) ∙ (sym c.index_among.ensures.value ∙ c.in_default.is)) in
     let gone = absent_already c.args.connection c.args.self.now.connections.items none in
     let moves = closes_moves g.A.Archive.condition c.args.self.now c.args.self.now refl c.args.connection refl gone in
     record {
@@ -47,7 +47,7 @@ returns-in_default g c =
       holding = closes_line c.args.self.now.config.max_upload c.args.connection c.args.self.now.connections.items c.args.self.now.connections.items gone;
       gone = none;
       behind = behind_gone c.args.connection c.args.self.now.connections.items
-          (behind_none c.args.connection c.args.self.now.connections.items (ap (index_of c.args.connection) (sym c.as_slice.ensures.value) ∙ (sym c.index_among.ensures.value ∙ c.in_default.is)));
+          (behind_none c.args.connection c.args.self.now.connections.items (ap (place_of_number c.args.connection) (sym c.as_slice.ensures.value) ∙ (sym c.index_among.ensures.value ∙ c.in_default.is)));
       kept = record {
         config = refl;
         next = refl;

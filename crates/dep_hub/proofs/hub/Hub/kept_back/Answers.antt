@@ -1,6 +1,6 @@
 use Rattle.std.proofs.Common.{List, MatchOption, set, sym, ap, subst, ◌∙◌}
 use Rattle.dep_hub.specs.Claims.{waits_on}
-use Rattle.dep_hub.specs.Looks.{Shows}
+use Rattle.dep_hub.specs.Looks.{ShowsItem}
 use Rattle.dep_hub.specs.RepresentsOwing.{IsAnswerable, KeptBack}
 use Rattle.dep_message.specs.Places.{Reading}
 use Rattle.dep_hub.specs.declared.connections.Connection.{Connection}
@@ -26,7 +26,7 @@ returns-clause-found g c =
     let item = c.index_mut.ensures.value in
     let same = c.as_slice-2.ensures.value ∙ (ap (λ (x : Connection). set items c.args.i x) c.look_at-look.ensures.same ∙ set_here c.args.i items kept item) in
     kept_number c.args.connection c.args.i items kept c.requires.index item c.kept_by.result
-    (subst (λ (cs : List Connection). Shows cs kept.intake kept.behind c.look_at-look.result
+    (subst (λ (cs : List Connection). ShowsItem cs kept.intake kept.behind c.look_at-look.result
     → MatchOption c.kept_by.result (IsAnswerable cs kept.intake kept.behind) (KeptBack cs kept.intake kept.behind)) same
     (c.kept_by.ensures kept.intake kept.behind)
     (c.look_at-look.ensures.shows items c.args.self.now.busy))

@@ -1,7 +1,7 @@
 use Rattle.std.proofs.Common.{refl, sym, ap, ◌∙◌}
 use Rattle.dep_message.specs.Places.{shut_reading, place_with}
 use Rattle.dep_hub.specs.Claims.{is_pending, is_waiting}
-use Rattle.dep_hub.specs.Numbers.{index_of}
+use Rattle.dep_hub.specs.Numbers.{place_of_number}
 use Rattle.dep_hub.proofs.ConnectionLemmas.{index_none, ascends_set}
 use Rattle.dep_hub.proofs.HubLemmas.{stays_there, none_there, not_absent, same_hub}
 use Rattle.dep_hub.proofs.HoldingLemmas.{held_fed, refuses}
@@ -15,7 +15,7 @@ use Rattle.std.proofs.KnownBytes.{Keeps-refl}
 -- there is no such connection
 pub returns-in_default : goal.returns-in_default
 returns-in_default g c =
-    let none = index_none c.args.connection c.args.self.now.connections.items (ap (index_of c.args.connection) (sym c.as_slice.ensures.value) ∙ (sym c.index_among.ensures.value ∙ c.in_default.is)) in
+    let none = index_none c.args.connection c.args.self.now.connections.items (ap (place_of_number c.args.connection) (sym c.as_slice.ensures.value) ∙ (sym c.index_among.ensures.value ∙ c.in_default.is)) in
     record {
       kept = record { config = refl; next = refl; store = refl };
       absent = λ _. refl;
@@ -28,7 +28,7 @@ returns-in_default g c =
 -- the piece was taken
 pub returns-in-Ok : goal.returns-in-Ok
 returns-in-Ok g c =
-    let index = ap (index_of c.args.connection) (sym c.as_slice.ensures.value) ∙ sym c.in-Some.ensures.value in
+    let index = ap (place_of_number c.args.connection) (sym c.as_slice.ensures.value) ∙ sym c.in-Some.ensures.value in
     record {
       kept = record { config = refl; next = refl; store = refl };
       absent = λ none. absurd (not_absent c.args.connection c.in-Some.i c.args.self.now.connections.items c.index_mut-kept.result.now index c.index_mut-kept.ensures.value none);
@@ -49,7 +49,7 @@ returns-in-Ok g c =
 -- memory ran out
 pub returns-in-Err : goal.returns-in-Err
 returns-in-Err g c =
-    let index = ap (index_of c.args.connection) (sym c.as_slice.ensures.value) ∙ sym c.in-Some.ensures.value in
+    let index = ap (place_of_number c.args.connection) (sym c.as_slice.ensures.value) ∙ sym c.in-Some.ensures.value in
     let e = c.in-Err.ensures.err in
     record {
       kept = record { config = refl; next = refl; store = refl };

@@ -1,7 +1,7 @@
 use Rattle.std.proofs.Common.{None, [], refl, sym, ap, subst, ◌∙◌}
 use Rattle.std.proofs.KnownBytes.{Appends-nil, Keeps-refl}
 use Rattle.dep_hub.specs.Claims.{is_awaited_by}
-use Rattle.dep_hub.specs.Numbers.{index_of}
+use Rattle.dep_hub.specs.Numbers.{place_of_number}
 use Rattle.dep_hub.specs.Owed.{IsOwed}
 use Rattle.dep_hub.specs.Preparing.{is_preparing}
 use Rattle.dep_hub.specs.RepresentsOwing.{is_looked_at, is_unsent}
@@ -17,7 +17,7 @@ use Rattle.dep_hub.proofs.hub.Hub.reply.Goals as goal
 -- there is no such connection
 pub returns-in_default-clause-replies : goal.returns-in_default-clause-replies
 returns-in_default-clause-replies g c =
-    let none = ap (index_of c.args.connection) (sym c.as_slice.ensures.value) ∙ (sym c.index_among.ensures.value ∙ c.in_default.is) in
+    let none = ap (place_of_number c.args.connection) (sym c.as_slice.ensures.value) ∙ (sym c.index_among.ensures.value ∙ c.in_default.is) in
     let empty = behind_none c.args.connection c.args.self.now.connections.items none in
     record {
       now = [];
@@ -38,28 +38,28 @@ returns-in_default-clause-replies g c =
 
 pub returns-in_default-clause-there : goal.returns-in_default-clause-there
 returns-in_default-clause-there g c there =
-    let none = ap (index_of c.args.connection) (sym c.as_slice.ensures.value) ∙ (sym c.index_among.ensures.value ∙ c.in_default.is) in
+    let none = ap (place_of_number c.args.connection) (sym c.as_slice.ensures.value) ∙ (sym c.index_among.ensures.value ∙ c.in_default.is) in
     absurd (none_there _ (index_none c.args.connection c.args.self.now.connections.items none) there)
 
 pub returns-in_default-clause-free : goal.returns-in_default-clause-free
 returns-in_default-clause-free g c reading there =
-    let none = ap (index_of c.args.connection) (sym c.as_slice.ensures.value) ∙ (sym c.index_among.ensures.value ∙ c.in_default.is) in
+    let none = ap (place_of_number c.args.connection) (sym c.as_slice.ensures.value) ∙ (sym c.index_among.ensures.value ∙ c.in_default.is) in
     absurd (not_there _ reading (index_none c.args.connection c.args.self.now.connections.items none) there)
 
 pub returns-in_default-clause-prepared : goal.returns-in_default-clause-prepared
 returns-in_default-clause-prepared g c nothing reading there =
-    let none = ap (index_of c.args.connection) (sym c.as_slice.ensures.value) ∙ (sym c.index_among.ensures.value ∙ c.in_default.is) in
+    let none = ap (place_of_number c.args.connection) (sym c.as_slice.ensures.value) ∙ (sym c.index_among.ensures.value ∙ c.in_default.is) in
     absurd (not_there _ reading (index_none c.args.connection c.args.self.now.connections.items none) there)
 
 pub returns-in_default-clause-unbroken : goal.returns-in_default-clause-unbroken
 returns-in_default-clause-unbroken g c broken =
-    let none = ap (index_of c.args.connection) (sym c.as_slice.ensures.value) ∙ (sym c.index_among.ensures.value ∙ c.in_default.is) in
+    let none = ap (place_of_number c.args.connection) (sym c.as_slice.ensures.value) ∙ (sym c.index_among.ensures.value ∙ c.in_default.is) in
     not_broken None (sym (behind_none c.args.connection c.args.self.now.connections.items none) ∙ broken)
 
 -- it is there
 pub returns-clause-absent : goal.returns-clause-absent
 returns-clause-absent g c none =
-    let index = ap (index_of c.args.connection) (sym c.as_slice.ensures.value) ∙ sym c.in-Some.ensures.value in
+    let index = ap (place_of_number c.args.connection) (sym c.as_slice.ensures.value) ∙ sym c.in-Some.ensures.value in
     absurd (there_none c.args.connection c.in-Some.i c.args.self.now.connections.items index none)
 
 -- it is kept back
@@ -69,7 +69,7 @@ keep_back-requires-clause-kept g c =
 
 pub returns-in-Some-kept_back-clause-absent : goal.returns-in-Some-kept_back-clause-absent
 returns-in-Some-kept_back-clause-absent g c none =
-    let index = ap (index_of c.args.connection) (sym c.as_slice.ensures.value) ∙ sym c.in-Some.ensures.value in
+    let index = ap (place_of_number c.args.connection) (sym c.as_slice.ensures.value) ∙ sym c.in-Some.ensures.value in
     absurd (there_none c.args.connection c.in-Some.i c.args.self.now.connections.items index none)
 
 pub returns-in-Some-kept_back-clause-later : goal.returns-in-Some-kept_back-clause-later

@@ -1,5 +1,5 @@
 use Rattle.std.proofs.Common.{refl, sym, ap, subst, ◌∙◌}
-use Rattle.dep_hub.specs.Numbers.{index_of}
+use Rattle.dep_hub.specs.Numbers.{place_of_number}
 use Rattle.dep_hub.specs.Owed.{IsOwed}
 use Rattle.dep_hub.specs.Claims.{is_any_pending, is_content, is_pending, is_waiting}
 use Rattle.dep_hub.proofs.PendingLemmas.{any_set}
@@ -48,7 +48,7 @@ invariant_of-self-in-Err g c = record {
 pub returns-in_default-clause-sends : goal.returns-in_default-clause-sends
 returns-in_default-clause-sends g c =
     let old = c.args.self.now in
-    let none = behind_none c.args.connection old.connections.items (ap (index_of c.args.connection) (sym c.as_slice.ensures.value) ∙ (sym c.index_among.ensures.value ∙ c.in_default.is)) in
+    let none = behind_none c.args.connection old.connections.items (ap (place_of_number c.args.connection) (sym c.as_slice.ensures.value) ∙ (sym c.index_among.ensures.value ∙ c.in_default.is)) in
     sends_none g.A.Archive.condition old _ c.args.connection (behind_at old.connections.items c.args.connection) refl
     (λ m. refl) (behinds_stay c.args.connection old.connections.items) refl (g.met.A.Archive.settled old.store) refl
     All (g.O.Outlet.taken c.args.out.now) (g.O.Outlet.failures c.args.out.now)
@@ -57,21 +57,21 @@ returns-in_default-clause-sends g c =
 pub returns-in-Nothing-clause-sends : goal.returns-in-Nothing-clause-sends
 returns-in-Nothing-clause-sends g c =
     nothing_sent g.A.Archive.condition c.args.self.now _ c.args.connection c.in-Some.i c.index_mut-kept.result.now
-    (ap (index_of c.args.connection) (sym c.as_slice.ensures.value) ∙ sym c.in-Some.ensures.value) c.index_mut-kept.ensures.value refl refl refl (g.met.A.Archive.settled c.args.self.now.store)
+    (ap (place_of_number c.args.connection) (sym c.as_slice.ensures.value) ∙ sym c.in-Some.ensures.value) c.index_mut-kept.ensures.value refl refl refl (g.met.A.Archive.settled c.args.self.now.store)
     All (g.O.Outlet.taken c.args.out.now) (g.O.Outlet.failures c.args.out.now) (all_sent c.index_mut-kept.result.now.behind c.in-Nothing.is).0
     (all_sent c.index_mut-kept.result.now.behind c.in-Nothing.is).1
 
 pub returns-in-Broken-clause-sends : goal.returns-in-Broken-clause-sends
 returns-in-Broken-clause-sends g c =
     nothing_sent g.A.Archive.condition c.args.self.now _ c.args.connection c.in-Some.i c.index_mut-kept.result.now
-    (ap (index_of c.args.connection) (sym c.as_slice.ensures.value) ∙ sym c.in-Some.ensures.value) c.index_mut-kept.ensures.value refl refl refl (g.met.A.Archive.settled c.args.self.now.store)
+    (ap (place_of_number c.args.connection) (sym c.as_slice.ensures.value) ∙ sym c.in-Some.ensures.value) c.index_mut-kept.ensures.value refl refl refl (g.met.A.Archive.settled c.args.self.now.store)
     BrokenOff (g.O.Outlet.taken c.args.out.now) (g.O.Outlet.failures c.args.out.now) (λ s owed owes. tt) (ap is_content c.in-Broken.is)
 
 -- a content goes on
 pub returns-in-Ok-Some-clause-sends : goal.returns-in-Ok-Some-clause-sends
 returns-in-Ok-Some-clause-sends g c =
     let old = c.args.self.now in
-    let index = ap (index_of c.args.connection) (sym c.as_slice.ensures.value) ∙ sym c.in-Some.ensures.value in
+    let index = ap (place_of_number c.args.connection) (sym c.as_slice.ensures.value) ∙ sym c.in-Some.ensures.value in
     let kept = c.index_mut-kept.result.now in
     let x = rw c.in-Ok-Some.field-0-is at c.in-Ok-Some.ensures in
     sends_on g.A.Archive.condition old _ c.args.connection (Content (record { file = c.in-Content.rest.file; sent = c.in-Ok-Some.sent })) refl
@@ -89,7 +89,7 @@ returns-in-Ok-Some-clause-sends g c =
 pub returns-in-Ok-None-clause-sends : goal.returns-in-Ok-None-clause-sends
 returns-in-Ok-None-clause-sends g c =
     let old = c.args.self.now in
-    let index = ap (index_of c.args.connection) (sym c.as_slice.ensures.value) ∙ sym c.in-Some.ensures.value in
+    let index = ap (place_of_number c.args.connection) (sym c.as_slice.ensures.value) ∙ sym c.in-Some.ensures.value in
     let kept = c.index_mut-kept.result.now in
     let x = rw c.in-Ok-None.field-0-is at c.in-Ok-None.ensures in
     sends_on g.A.Archive.condition old _ c.args.connection Nothing refl
@@ -107,7 +107,7 @@ returns-in-Ok-None-clause-sends g c =
 pub returns-in-Err-clause-sends : goal.returns-in-Err-clause-sends
 returns-in-Err-clause-sends g c =
     let old = c.args.self.now in
-    let index = ap (index_of c.args.connection) (sym c.as_slice.ensures.value) ∙ sym c.in-Some.ensures.value in
+    let index = ap (place_of_number c.args.connection) (sym c.as_slice.ensures.value) ∙ sym c.in-Some.ensures.value in
     let kept = c.index_mut-kept.result.now in
     let x = c.in-Err.ensures in
     sends_on g.A.Archive.condition old _ c.args.connection Broken refl

@@ -2,7 +2,7 @@ use Rattle.std.proofs.Common.{List, ℕ, [], ◌++◌, ◌+◌, ◌≡◌, ◌�
 use Rattle.std.proofs.lemmas.List.{drop_all, take_all}
 use Rattle.std.proofs.lemmas.Result.{err_from_is_err_and}
 use Rattle.dep_body.specs.declared.frame.Framing.{Framing}
-use Rattle.dep_message.specs.Working.{IsBegun, first_of}
+use Rattle.dep_message.specs.Working.{IsBegun, first_found}
 use Rattle.dep_message.specs.declared.message.Message.{Message}
 use Rattle.dep_message.specs.declared.progress.Found.TheVariants as F
 use Rattle.dep_message.specs.declared.progress.Progress.TheVariants.{Sized}
@@ -27,7 +27,7 @@ returns-then-come-size c =
     let full : c.args.size ≤ length (drop n w.buffer) = omega (arith, length-take c.args.size (drop n w.buffer), ap length (c.as_slice-come.ensures ∙ come), c.if-come-size.true) in
     keeps_front w c.keep_found.new.self used n c.args.size first.framing m c.requires.head.begun
     (sized_body w.limit first.framing c.args.size (drop n w.buffer) m.content c.requires.size full come) c.drop_front-used.ensures.used
-    (c.keep_found.ensures ∙ ap (λ (b : List ℕ). record w { buffer = b; progress = first_of (F.Message m) used }) c.drop_front-used.ensures.rest)
+    (c.keep_found.ensures ∙ ap (λ (b : List ℕ). record w { buffer = b; progress = first_found (F.Message m) used }) c.drop_front-used.ensures.rest)
 
 pub returns : goal.returns
 returns c =

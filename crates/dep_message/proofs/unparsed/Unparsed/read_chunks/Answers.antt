@@ -1,6 +1,6 @@
 use Rattle.std.proofs.Common.{List, ℕ, ◌∙◌, ◌++◌, sym, ap, subst, refl}
 use Rattle.dep_message.specs.Stream.{IsRequestText}
-use Rattle.dep_message.specs.Working.{Keeps, ReadsChunks, first_of}
+use Rattle.dep_message.specs.Working.{Keeps, ReadsChunks, first_found}
 use Rattle.dep_message.specs.declared.message.Message.{Message}
 use Rattle.dep_message.specs.declared.progress.Found.TheVariants as F
 use Rattle.dep_message.specs.declared.progress.Progress.TheVariants.{Chunked}
@@ -49,7 +49,7 @@ returns-in-Ok-Done c =
     let reported = rw c.in-Ok-Done.field-0-is at (fed.reported reads.fed reads.has_fed) in
     let m : Message = record { head = r.head; content = c.content.result } in
     keeps_request w c.keep_found.new.self (r.used.items ++ w.buffer) used count m
-    (c.keep_found.ensures ∙ ap (λ (b : List ℕ). record w { buffer = b; progress = first_of (F.Message m) used }) c.drop_front.ensures.rest)
+    (c.keep_found.ensures ∙ ap (λ (b : List ℕ). record w { buffer = b; progress = first_found (F.Message m) used }) c.drop_front.ensures.rest)
     (chunks_whole w.limit w.continued r piece w.buffer reads same read.limit read.content (fed.limit ∙ reads.limit_is) count used c.and-used.ensures)
     (subst (λ (l : List ℕ). IsRequestText w.limit w.continued used.items (record { head = r.head; content = l })) (sym c.content.ensures)
     (chunks_text w.limit w.continued r piece w.buffer reads same read.limit read.content (fed.limit ∙ reads.limit_is) count used reported c.and-used.ensures))

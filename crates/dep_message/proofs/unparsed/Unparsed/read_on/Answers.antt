@@ -1,5 +1,5 @@
 use Rattle.std.proofs.Common.{sym, ◌∙◌, ◌≡◌, subst, refl, Ok}
-use Rattle.dep_message.specs.Working.{IsKnown, ReadsOn, bytes_with}
+use Rattle.dep_message.specs.Working.{IsKnownProgress, ReadsOn, bytes_with}
 use Rattle.dep_message.specs.declared.progress.Progress.{Progress}
 use Rattle.dep_message.specs.declared.progress.Progress.TheVariants.{First}
 use Rattle.dep_message.proofs.Keeping.{keeps_found}
@@ -28,6 +28,6 @@ returns-in-First c =
     let w = c.args.self.now in
     let first = c.in-First.first in
     let is : w.progress ≡ First first = sym c.replace.ensures.value ∙ c.in-First.is in
-    let known = subst (λ (p : Progress). IsKnown w.limit w.continued w.buffer p) is c.requires in
+    let known = subst (λ (p : Progress). IsKnownProgress w.limit w.continued w.buffer p) is c.requires in
     subst (λ (p : Progress). ReadsOn w (bytes_with p w.buffer) c.keep_place.new.self (Ok tt)) (sym is)
     (keeps_found w c.keep_place.new.self _ first.item first.used c.keep_place.ensures refl known)

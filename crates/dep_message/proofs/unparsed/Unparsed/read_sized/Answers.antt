@@ -1,5 +1,5 @@
 use Rattle.std.proofs.Common.{List, ℕ, arith, sym, ap, subst, ◌∙◌, ◌<◌, ◌++◌, length, take, drop}
-use Rattle.dep_message.specs.Working.{Keeps, first_of}
+use Rattle.dep_message.specs.Working.{Keeps, first_found}
 use Rattle.dep_message.specs.declared.message.Message.{Message}
 use Rattle.dep_message.specs.declared.progress.Found.TheVariants as F
 use Rattle.dep_message.specs.declared.progress.Progress.TheVariants.{Sized}

@@ -1,5 +1,5 @@
 use Rattle.std.proofs.Common.{sym, ap, refl, ◌∙◌, ◌≡◌, subst, Some, inl, inr}
-use Rattle.dep_message.specs.Working.{Finds, IsKnown, Keeps, bytes_with, kept_bytes}
+use Rattle.dep_message.specs.Working.{Finds, IsKnownProgress, Keeps, bytes_with, kept_bytes}
 use Rattle.dep_message.specs.declared.progress.Progress.{Progress}
 use Rattle.dep_message.specs.declared.progress.Progress.TheVariants.{First}
 use Rattle.dep_message.specs.declared.unparsed.Unparsed.{Unparsed}
@@ -12,7 +12,7 @@ returns-after-matches c =
     let w = c.args.self.now in
     let first = c.in-First.first in
     let is : w.progress ≡ First first = sym c.replace.ensures.value ∙ c.in-First.is in
-    let known = subst (λ (p : Progress). IsKnown w.limit w.continued w.buffer p) is c.requires.known in
+    let known = subst (λ (p : Progress). IsKnownProgress w.limit w.continued w.buffer p) is c.requires.known in
     subst (λ (p : Progress). Finds w.limit w.continued (bytes_with p w.buffer) (record w { progress = c.replace.new.dest; continued = c.match-matches.self }) (Some first.item)) (sym is)
     (takes_found w first.used.items first.item known c.replace.new.dest c.replace.ensures.after c.match-matches.self
     (elim c.match-matches.branch [

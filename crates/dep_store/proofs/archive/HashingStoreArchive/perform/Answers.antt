@@ -6,7 +6,7 @@ use Rattle.dep_answers.specs.declared.performed.Performed.{Performed}
 use Rattle.dep_answers.specs.Steps.{operation_step}
 use Rattle.dep_answers.proofs.SegmentsStay.{step_keeps_segments}
 use Rattle.dep_fields.specs.Fit.{AreFit}
-use Rattle.dep_store.specs.HashingStores.{shown_by}
+use Rattle.dep_store.specs.HashingStores.{shown_with_hashes}
 use Rattle.dep_store.proofs.LogLemmas.{note_falls_due}
 use Rattle.dep_store.proofs.KeepingLemmas.{are_running_still, tries_hashed, tries_failed, shut_hashed, fails_failed}
 use Rattle.dep_store.proofs.archive.HashingStoreArchive.perform.Goals as goal
@@ -19,7 +19,7 @@ returns-in_err-performed-clause-does g c =
     let op = c.args.operation.now in
     let old = state g.S.Store c.args.self.now.store in
     let new = state g.S.Store c.perform.new.self in
-    tries_failed (shown_by old runs) (shown_by new later) _ (λ s p. IsReady (operation_step config s op) p) (λ s. (operation_step config s op).state) _ c.from_residual.result c.from_residual.ensures.0
+    tries_failed (shown_with_hashes old runs) (shown_with_hashes new later) _ (λ s p. IsReady (operation_step config s op) p) (λ s. (operation_step config s op).state) _ c.from_residual.result c.from_residual.ensures.0
     (tries_hashed old new runs later _ (λ s. AreFit op.fields) (λ s p. IsReady (operation_step config s op) p) (λ s. (operation_step config s op).state) _ (λ s fit are. (fit, are)) c.in_err-performed.ensures.running
     (λ s are. are_running_still s (operation_step config s op).state later (step_keeps_segments config s op) are) c.in_err-performed.ensures.does)
 
@@ -29,7 +29,7 @@ returns-in_err-performed-clause-shut g c =
     let later = c.perform.new.running in
     let old = state g.S.Store c.args.self.now.store in
     let new = state g.S.Store c.perform.new.self in
-    fails_failed (shown_by old runs) (shown_by new later) _ c.from_residual.result c.from_residual.ensures.0
+    fails_failed (shown_with_hashes old runs) (shown_with_hashes new later) _ c.from_residual.result c.from_residual.ensures.0
     (shut_hashed old new runs later _ c.in_err-performed.ensures.shut)
 
 pub returns-clause-does : goal.returns-clause-does

@@ -4,7 +4,7 @@ use Rattle.sqlite.specs.State.{HasCleanDisk}
 use Rattle.sqlite.specs.Held.{Held, state}
 use Rattle.dep_exchange.specs.Archives.{KeepsAll}
 use Rattle.dep_store.specs.Archive.{shown_by}
-use Rattle.dep_store.specs.Shut.{FailsToReport}
+use Rattle.dep_store.specs.Shut.{StoreFailsToReport}
 use Rattle.dep_store.specs.Staying.{LeavesOnly}
 use Rattle.dep_store.proofs.Cache.{forgotten}
 use Rattle.dep_store.proofs.Tries.{keeps_back, keeps_same, leaves_only}
@@ -28,7 +28,7 @@ returns-in_ok-check_settled-in-None g c =
     let asked = c.report_open.ensures in
     record {
       reported = asked.reported;
-      cause = subst (λ (h : Held _). HasCleanDisk new → IfErr c.report_open.result (FailsToReport (state g.S.Store h) new)) c.self.view_is asked.cause;
+      cause = subst (λ (h : Held _). HasCleanDisk new → IfErr c.report_open.result (StoreFailsToReport (state g.S.Store h) new)) c.self.view_is asked.cause;
       rests = subst (λ (h : Held _). KeepsAll (shown_by (state g.S.Store h)) (shown_by new)) c.self.view_is (keeps_back old new asked.restored);
       left = subst (λ (h : Held _). LeavesOnly (state g.S.Store h) new) c.self.view_is (leaves_only old new asked.restored.survives);
     }

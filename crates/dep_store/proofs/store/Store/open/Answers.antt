@@ -10,7 +10,7 @@ use Rattle.dep_schema.proofs.Version.{not_older}
 use Rattle.dep_store.proofs.Older.{never_unknown, one_left, reports_older, known_since, back_since, had_free, not_upgraded}
 use Rattle.dep_schema.specs.OpenFaults.{begun, ShowsOrMakes}
 use Rattle.dep_schema.specs.OpenTables.{StaysFile}
-use Rattle.dep_migrations.specs.FirstTables.{first_tables}
+use Rattle.dep_migrations.specs.FirstTables.{new_store_tables}
 use Rattle.dep_files.proofs.Reported.{passed_on}
 use Rattle.dep_store.proofs.store.Store.open.Goals as goal
 
@@ -22,7 +22,7 @@ returns-then-version-eq2 g c =
     let did = c.in_ok-schema.ensures in
     let two : c.in_ok-schema.schema.found ≡ our_version = omega (arith, c.if-version-eq2.true, c.version-version.ensures) in
     rw c.over.ensures record {
-      fresh = λ clean none. record { tables = first_tables; represents = (did.fresh clean none).0; means = first_means };
+      fresh = λ clean none. record { tables = new_store_tables; represents = (did.fresh clean none).0; means = first_means };
       found = λ clean s left. elim (opened_stood old new c.in_ok-schema.schema.found s (did.found clean) left) [
         | inl it ↦ it.1
         | inr it ↦ absurd (not_older (sym two ∙ it.0))
