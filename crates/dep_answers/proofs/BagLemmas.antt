@@ -8,7 +8,7 @@ use Rattle.std.proofs.lemmas.Slice.Eq.{bytes_eq-Decides}
 use Rattle.dep_types.specs.State.{Object, File}
 use Rattle.dep_types.specs.Rows.{file_row, object_view}
 use Rattle.dep_types.specs.declared.rows.ObjectView.{ObjectView}
-use Rattle.dep_types.specs.Sinks.{Entry}
+use Rattle.dep_types.specs.Sinks.{PathAndBytes}
 use Rattle.dep_docs_out.specs.Documents.{bag_metadata_document}
 use Rattle.dep_manifest.specs.TagFiles.{bagit_text}
 use Rattle.dep_manifest.specs.Manifest.{digest_by, manifest_of}
@@ -52,17 +52,17 @@ payload_reported n o (e ∷ es) h = λ i.
 entries_reported : (n : ℕ) (o : Object) → each (reported_entry n o) (reported_parts (object_view n o)) ≡ each held_entry (bag_entries n o)
 entries_reported n o =
     let held = entries-held nat_cmp_total finmap.nat_cmp-IsAntisymmetric o.files in
-    ap (λ (texts : List Entry). each (reported_entry n o) (each text_part texts ++ each stored_part (object_view n o).files)) (same_tag_files n o)
+    ap (λ (texts : List PathAndBytes). each (reported_entry n o) (each text_part texts ++ each stored_part (object_view n o).files)) (same_tag_files n o)
     ∙ ap (λ (l : List Known). each held_entry (tags_shown o) ++ l) (payload_reported n o (finmap.entries o.files) held)
 
 -- the files of the bag
 pub shown_files : (n : ℕ) (o : Object) → each (λ (p : BagEntry). (p.0, bytes_of p.1)) (bag_entries n o) ≡ bag_files o
 unfolding bag_files
-shown_files n o = ap (λ (l : List Entry). tag_files o ++ l) (same_payload (finmap.entries o.files))
+shown_files n o = ap (λ (l : List PathAndBytes). tag_files o ++ l) (same_payload (finmap.entries o.files))
   where
     same_payload : (es : List (ℕ × File)) → each (λ (p : BagEntry). (p.0, bytes_of p.1)) (each (payload_shown n) es) ≡ each payload_entry es
     same_payload [] = refl
-    same_payload (e ∷ es) = ap (λ (l : List Entry). payload_entry e ∷ l) (same_payload es)
+    same_payload (e ∷ es) = ap (λ (l : List PathAndBytes). payload_entry e ∷ l) (same_payload es)
 
 -- ---- what is read of an object shows what all of it does
 

@@ -3,7 +3,7 @@ use Rattle.std.proofs.Common.{◌≡◌, ℕ, Bool, true, false, List, [], ◌�
 use Rattle.std.specs.FinMap as finmap
 use Rattle.dep_types.specs.BagPaths.{payload_path}
 use Rattle.dep_types.specs.Rows.{file_row, object_view}
-use Rattle.dep_types.specs.Sinks.{Entry}
+use Rattle.dep_types.specs.Sinks.{PathAndBytes}
 use Rattle.dep_types.specs.State.{State, Object, File}
 use Rattle.dep_types.specs.declared.rows.ObjectView.{ObjectView}
 use Rattle.dep_manifest.specs.Lengths.{OfLength}
@@ -38,7 +38,7 @@ same_files n o (Some (tag.TagManifest a)) b = refl
 same_files n o None b = refl
 
 payload_rows : (n : ℕ) (es : List (ℕ × File))
-    → map (λ (file : Entry). file.0) (map (λ (e : ℕ × File). (payload_path e.0 e.1.name, e.1.content)) es) ≡ map row_path (map (λ (e : ℕ × File). file_row n e.0 e.1) es)
+    → map (λ (file : PathAndBytes). file.0) (map (λ (e : ℕ × File). (payload_path e.0 e.1.name, e.1.content)) es) ≡ map row_path (map (λ (e : ℕ × File). file_row n e.0 e.1) es)
 payload_rows n [] = refl
 payload_rows n (e ∷ es) = ap (λ (l : List (List ℕ)). payload_path e.0 e.1.name ∷ l) (payload_rows n es)
 
@@ -54,7 +54,7 @@ module _ (s : State) (n : ℕ) (o : Object) (path : List ℕ) (delivery : Delive
   pub manifest_measured : (view : ObjectView) → tag_file_at path ≡ Some (tag.Manifest a) → delivery.is_head_only ≡ true → IsTagView path view delivery.is_head_only n o
       → OfLength a (map row_path view.files) (λ size. SaysLength size delivery p) → SaysPath
   manifest_measured view at head_only is says =
-      let rows : map (λ (file : Entry). file.0) (payload o) ≡ map row_path view.files =
+      let rows : map (λ (file : PathAndBytes). file.0) (payload o) ≡ map row_path view.files =
       payload_rows n (finmap.entries o.files)
       ∙ ap (map row_path) (sym (ap (λ (v : ObjectView). v.files) is ∙ same_files n o (tag_file_at path) delivery.is_head_only)) in
       let text = manifest_of (digest_by a) (payload o) in

@@ -8,10 +8,10 @@ use Rattle.std.specs.Prelude.{Option}
 use Rattle.dep_types.specs.State.{State, empty_state}
 use Rattle.dep_types.specs.Config.{IsChecked}
 use Rattle.dep_types.specs.declared.config.Config.{Config}
-use Rattle.dep_schema.specs.States.{Represents}
+use Rattle.dep_schema.specs.States.{StoreRepresents}
 use Rattle.dep_schema.specs.declared.opening.OpenFault.{OpenFault}
 use Rattle.dep_schema.proofs.Transacting.{IsSettled, leaves_as_was}
-use Rattle.dep_store.specs.Migrating.{Keeps}
+use Rattle.dep_store.specs.Migrating.{KeepsDatabase}
 use Rattle.dep_commands.specs.Starting.{IsGivenOrStore, IsOpened, IsStore, OpeningLeaves, RefusesConfig, outcome_of_start}
 use Rattle.dep_commands.specs.declared.starting.StartFault.{StartFault}
 use Rattle.dep_commands.specs.declared.starting.StartFault.TheVariants as fault
@@ -70,7 +70,7 @@ module _ {S : Type 0} (g : Ghosts S) (clean : (h : Held S) → IsTrue (state g h
         is same (subst (λ (h : Held S). IsHosted config (state g given) (state g h) actions) (sym same) (hosted_by store actions went))
 
 -- nobody was served
-stays : (config : Config) (d : db.State) (s first : State) (records : List Record) → IsSettled d → Represents d s → Run config first records (first_world s) → LedBy config d first records []
+stays : (config : Config) (d : db.State) (s first : State) (records : List Record) → IsSettled d → StoreRepresents d s → Run config first records (first_world s) → LedBy config d first records []
 stays config d s first records settled represents went =
     let same : records ≡ records ++ [] = sym (append-nil records) in
     record {
@@ -99,7 +99,7 @@ module _ {S R K P : Type 0} (g : Ghosts S) (unread : R → Option (List ℕ)) (t
   }
 
   without : {before after : AcceptorState R K P} {limits : ServerLimits} (why : StartFault) → ((f : OpenFault) → why ≡ fault.Open f → IsChecked config)
-      → ((f : OpenFault) → why ≡ fault.Open f → IsTrue (state g back).is_open → Keeps (state g given) (state g back))
+      → ((f : OpenFault) → why ≡ fault.Open f → IsTrue (state g back).is_open → KeepsDatabase (state g given) (state g back))
       → RefusesConfig config given (why, back) → (why ≡ fault.Hub refused_by.Memory → IsGivenOrStore g config given back) → OpeningLeaves config (state g given) (state g back) → after ≡ before
       → HostsDatabase g unread taken held size causes before after limits config given back (outcome_of_start why)
   without (fault.Open f) checked left refuses kept stop alone = not_opened (checked f refl) (left f refl) stop alone
@@ -112,7 +112,7 @@ module _ {S R K P : Type 0} (g : Ghosts S) (unread : R → Option (List ℕ)) (t
 
   -- no hub was made
   pub without_hub : {before after : AcceptorState R K P} {limits : ServerLimits} (why : StartFault) → ((f : OpenFault) → why ≡ fault.Open f → IsChecked config)
-      → ((f : OpenFault) → why ≡ fault.Open f → IsTrue (state g back).is_open → Keeps (state g given) (state g back))
+      → ((f : OpenFault) → why ≡ fault.Open f → IsTrue (state g back).is_open → KeepsDatabase (state g given) (state g back))
       → RefusesConfig config given (why, back) → (why ≡ fault.Hub refused_by.Memory → IsGivenOrStore g config given back) → OpeningLeaves config (state g given) (state g back) → after ≡ before
       → (outcome : Outcome) → outcome ≡ outcome_of_start why → HostsDatabase g unread taken held size causes before after limits config given back outcome
   without_hub {before = before} {after = after} {limits = limits} why checked left refuses kept stop alone outcome same =

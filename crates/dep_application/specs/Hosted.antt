@@ -8,8 +8,8 @@ use Rattle.dep_types.specs.State.{State, empty_state}
 use Rattle.dep_types.specs.Config.{IsChecked}
 use Rattle.dep_types.specs.declared.config.Config.{Config}
 use Rattle.dep_schema.specs.OpenTables.{HoldsNone}
-use Rattle.dep_schema.specs.States.{Represents, IsLeftAs, DatabaseLeaves}
-use Rattle.dep_store.specs.Migrating.{Keeps}
+use Rattle.dep_schema.specs.States.{StoreRepresents, IsLeftAs, DatabaseLeaves}
+use Rattle.dep_store.specs.Migrating.{KeepsDatabase}
 use Rattle.dep_store.specs.declared.archive.HashingStore.{HashingStore}
 use Rattle.dep_reserve.specs.declared.reserved_archive.ReservedArchive.{ReservedArchive}
 use Rattle.dep_application.specs.declared.logged_reserve.LoggedReserve.{LoggedReserve}
@@ -41,7 +41,7 @@ pub record LedBy (config : Config) (d : db.State) (first : State) (records : Lis
   pub follows : Follows (λ n. []) actions more holds
   pub world : World
   pub run : Run config first (records ++ more) world
-  pub represents : Represents d world.state
+  pub represents : StoreRepresents d world.state
   pub stop : DatabaseLeaves d (λ left. Run config first ((records ++ more) ++ stopped ∷ []) (first_world left))
 
 -- It went on from the initial state over an empty database, and over one that a store left from all
@@ -94,12 +94,12 @@ module _ {S R K P : Type 0} (g : Ghosts S) (unread : R → Option (List ℕ)) (t
         → after ≡ before → HostsDatabase before after limits config given back StoreFault
     -- it was not opened as a store
     not_opened : IsChecked config
-        → (IsTrue (state g back).is_open → Keeps (state g given) (state g back))
+        → (IsTrue (state g back).is_open → KeepsDatabase (state g given) (state g back))
         → OpeningLeaves config (state g given) (state g back) → after ≡ before
         → HostsDatabase before after limits config given back StoreFault
 
 -- the place is as it is configured
-pub record IsPlaceOf (given : Configuration) (place : HostOptions) : Type 0 where
+pub record AreOptionsOf (given : Configuration) (place : HostOptions) : Type 0 where
   pub address : socket_ip place.address ≡ given.address
   pub port : socket_port place.address ≡ given.port
   pub spool_folder : place.spool_folder ≡ given.spool_folder
@@ -108,15 +108,15 @@ pub record IsPlaceOf (given : Configuration) (place : HostOptions) : Type 0 wher
   pub limits : place.limits ≡ given.limits
 
 -- a text, unless it is empty
-abbrev filled : List ℕ → Option (List ℕ)
-filled [] = None
-filled (c ∷ text) = Some (c ∷ text)
+abbrev unless_empty : List ℕ → Option (List ℕ)
+unless_empty [] = None
+unless_empty (c ∷ text) = Some (c ∷ text)
 
 -- where the clients of this place come in, and until when
 pub record IsEntranceOf (place : HostOptions) (entrance : Entrance) : Type 0 where
   pub address : entrance.address ≡ place.address
   pub clients : entrance.clients ≡ unwrap_or place.limits.connections 18446744073709551615
-  pub stop_file : option_map (λ file. file.now) entrance.stop_file ≡ filled place.stop_file
+  pub stop_file : option_map (λ file. file.now) entrance.stop_file ≡ unless_empty place.stop_file
 
 -- the store of this database is served to who comes in at this place, by an acceptor over spools of its folder,
 -- which hold no more than they may

@@ -28,14 +28,14 @@ pub struct StandardErrorLog<'a> {
     /// The time that opening the database took.
     open_microseconds: u64,
     /// The room of the item that is answered next.
-    item: Item,
+    item: LoggedItem,
     /// Items that were answered, behind whose replies contents are still to be sent.
-    begun: Vec<Item>,
+    begun: Vec<LoggedItem>,
 }
 
 /// What is known of an item that is answered.
 #[derive(Drop)]
-pub struct Item {
+pub struct LoggedItem {
     connection: u64,
     address: Option<IpAddr>,
     method: String,
@@ -57,7 +57,7 @@ impl<'a> StandardErrorLog<'a> {
             place,
             lines: HeldLines::new(rt),
             open_microseconds: microseconds_since(rt, place.begun),
-            item: Item::new(rt.alloc()),
+            item: LoggedItem::new(rt.alloc()),
             begun: Vec::new(rt.alloc()),
         }
     }
@@ -84,7 +84,7 @@ impl<'a> StandardErrorLog<'a> {
     }
 
     // The line of an item that was answered.
-    fn write_exchange(&mut self, item: &Item, address: IpAddr, status: u16, bytes: Bytes) {
+    fn write_exchange(&mut self, item: &LoggedItem, address: IpAddr, status: u16, bytes: Bytes) {
         let Ok(peer) = format!(in self.rt.alloc(); "{address}") else {
             return;
         };
@@ -107,10 +107,10 @@ impl<'a> StandardErrorLog<'a> {
     }
 }
 
-impl Item {
+impl LoggedItem {
     // An item of which nothing is known.
-    fn new(alloc: Global) -> Item {
-        Item {
+    fn new(alloc: Global) -> LoggedItem {
+        LoggedItem {
             connection: 0,
             address: None,
             method: String::new(alloc),
@@ -123,7 +123,7 @@ impl Item {
     }
 }
 
-impl AccessLog for Item {
+impl AccessLog for LoggedItem {
     fn request(&mut self, method: &[u8], path: &str, _length: u64) {
         let front = method.get(..MOST_METHOD).unwrap_or(method);
         let _ = self.method.push_str(str::from_utf8(front).unwrap_or(""));
@@ -138,7 +138,7 @@ impl AccessLog for Item {
 }
 
 impl HostLog for StandardErrorLog<'_> {
-    type Item = Item;
+    type Item = LoggedItem;
 
     fn opened(&mut self, _connection: ConnId, _address: IpAddr) {}
 
@@ -153,8 +153,8 @@ impl HostLog for StandardErrorLog<'_> {
         self.write_closing(None, address, reason);
     }
 
-    fn answering(&mut self, connection: ConnId, address: IpAddr) -> Item {
-        let mut item = mem::replace(&mut self.item, Item::new(self.rt.alloc()));
+    fn answering(&mut self, connection: ConnId, address: IpAddr) -> LoggedItem {
+        let mut item = mem::replace(&mut self.item, LoggedItem::new(self.rt.alloc()));
         item.connection = connection.number();
         item.address = Some(address);
         item.method.clear();
@@ -165,12 +165,12 @@ impl HostLog for StandardErrorLog<'_> {
         item
     }
 
-    fn kept_back(&mut self, item: Item) {
+    fn kept_back(&mut self, item: LoggedItem) {
         self.item = item;
     }
 
     // A `100 Continue` has no line.
-    fn answered(&mut self, item: Item, next: Next, bytes: Bytes) {
+    fn answered(&mut self, item: LoggedItem, next: Next, bytes: Bytes) {
         if let Some(address) = item.address {
             if let Some(status) = item.status {
                 self.write_exchange(&item, address, status, bytes);
@@ -184,7 +184,7 @@ impl HostLog for StandardErrorLog<'_> {
 
     // The line of a reply with a content is written once no more of that is sent, or at once where there is no
     // memory to keep it so long.
-    fn begun(&mut self, mut item: Item, bytes: Bytes) {
+    fn begun(&mut self, mut item: LoggedItem, bytes: Bytes) {
         item.received = bytes.received;
         if let Err(refused) = self.begun.push(item) {
             self.answered(refused.value, Next::More, bytes);

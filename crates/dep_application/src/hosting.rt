@@ -3,7 +3,7 @@ ghost use Rattle.std.specs.Prelude.{◌≡◌, false};
 ghost use Rattle.sqlite.specs.Held.{state};
 ghost use Rattle.dep_slot.specs.Causes.{causes_of};
 ghost use Rattle.dep_sockets.specs.Acceptors.{acceptor_state};
-ghost use Rattle.dep_application.specs.Hosted.{HostsDatabase, IsEntranceOf, IsPlaceOf, host_limits};
+ghost use Rattle.dep_application.specs.Hosted.{HostsDatabase, IsEntranceOf, AreOptionsOf, host_limits};
 
 use crate::host_log::StandardErrorLog;
 use crate::logged_reserve::LoggedReserve;
@@ -44,7 +44,7 @@ impl HostOptions {
         reserve_file: Text,
         begun: Option<Instant>,
     ) -> (HostOptions, Text, Config)
-        ensures place { IsPlaceOf configuration result.0 }
+        ensures place { AreOptionsOf configuration result.0 }
         ensures database { result.1 ≡ configuration.database }
         ensures config { result.2 ≡ configuration.config }
     {

@@ -9,12 +9,12 @@ use Rattle.std.proofs.lemmas.Grind.{flat_map-append}
 use Rattle.std.proofs.lemmas.List.Elements.{All-head, All-tail}
 use Rattle.dep_types.specs.State.{State, Object, File}
 use Rattle.dep_types.specs.Rows.{file_row, object_view}
-use Rattle.dep_types.specs.Sinks.{Entry, IsPrefix, folder_made, file_given}
+use Rattle.dep_types.specs.Sinks.{PathAndBytes, IsPrefix, folder_made, file_given}
 use Rattle.dep_types.specs.declared.rows.ObjectView.{ObjectView}
 use Rattle.dep_bag.specs.Bag.{payload, bag_files}
 use Rattle.dep_bag.specs.Parts.{reported_tag_files}
 use Rattle.dep_bag.specs.Source.{view_at}
-use Rattle.dep_bag.specs.Giving.{IsGivenAt, IsGiven, tag_transcript, AreFilesOf}
+use Rattle.dep_bag.specs.Giving.{IsGivenAt, IsGivenOrPrefix, tag_transcript, AreFilesOf}
 use Rattle.dep_bag.specs.Exports.{bag_transcript, IsExported}
 use Rattle.dep_bag.specs.declared.export_fault.ExportFault.{ExportFault}
 use Rattle.dep_bag.specs.declared.export_fault.ExportFault.TheVariants.{NoSuchObject, Sink, Store, Memory}
@@ -65,7 +65,7 @@ are_payload s n view v =
 whole_transcript : (n : ℕ) (o : Object) → bag_transcript o ≡ tag_transcript (object_view n o) ++ flat_map file_given (payload o)
 unfolding bag_files
 whole_transcript n o =
-    let tags : List Entry = reported_tag_files (object_view n o) in
+    let tags : List PathAndBytes = reported_tag_files (object_view n o) in
     ap (λ texts. folder_made (codes "data") ++ flat_map file_given (texts ++ payload o)) (sym (same_tag_files n o))
     ∙ ap (λ t. folder_made (codes "data") ++ t) (flat_map-append file_given tags (payload o))
     ∙ sym (append_assoc (folder_made (codes "data")) (flat_map file_given tags) (flat_map file_given (payload o)))
@@ -94,7 +94,7 @@ tags_exported s n view v e given r part err =
 
 -- the tag files, and then what was given of the payload
 pub all_exported : {X : Type 0} (s : State) (n : ℕ) (view : ObjectView) (v : IsViewOf s n view) (tags more : List ℕ) (r : Result X ExportFault)
-    → tags ≡ tag_transcript view → IsGiven (flat_map file_given (payload v.object)) more r → IsExported s n (tags ++ more) r
+    → tags ≡ tag_transcript view → IsGivenOrPrefix (flat_map file_given (payload v.object)) more r → IsExported s n (tags ++ more) r
 all_exported s n view v tags more (Ok x) is gives = (v.object, v.held, (λ i. is i ++ gives i) ∙ sym (reported_transcript s n view v))
 all_exported {X} s n view v tags more (Err e) is gives =
     let f = given_front e (flat_map file_given (payload v.object)) more gives in

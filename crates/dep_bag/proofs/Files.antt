@@ -11,7 +11,7 @@ use Rattle.std.proofs.lemmas.List.Elements.{All-cons, All-nil, All-head, All-tai
 use Rattle.dep_types.specs.State.{Object, File}
 use Rattle.dep_types.specs.BagPaths.{payload_path}
 use Rattle.dep_docs_out.specs.Documents.{bag_metadata_document}
-use Rattle.dep_types.specs.Sinks.{Entry}
+use Rattle.dep_types.specs.Sinks.{PathAndBytes}
 use Rattle.dep_manifest.specs.Manifest.{encoded_path}
 use Rattle.dep_manifest.specs.declared.algorithm.Algorithm.{Algorithm}
 use Rattle.dep_manifest.specs.declared.algorithm.Algorithm.TheVariants.{Sha256, Sha512}
@@ -25,16 +25,16 @@ use Rattle.dep_bag.proofs.PayloadPaths.{same_number}
 abbrev pub order : List ℕ → List ℕ → Ordering
 order = slice_cmp nat_cmp
 
-abbrev pub payload_entry : ℕ × File → Entry
+abbrev pub payload_entry : ℕ × File → PathAndBytes
 payload_entry e = (payload_path e.0 e.1.name, e.1.content)
 
-abbrev pub bagit_file : Entry
+abbrev pub bagit_file : PathAndBytes
 bagit_file = (codes "bagit.txt", bagit_text)
 
-abbrev pub info_file : Object → Entry
+abbrev pub info_file : Object → PathAndBytes
 info_file o = (codes "bag-info.txt", info_text o.changed (oxum (payload o)))
 
-abbrev pub metadata_file : Object → Entry
+abbrev pub metadata_file : Object → PathAndBytes
 metadata_file o = (codes "metadata/sword.json", bag_metadata_document o.metadata)
 
 abbrev pub IsSmall : ℕ × File → Type 0
@@ -106,7 +106,7 @@ payload-plain : (n : ℕ) (name : List ℕ) → BeginsPlain (payload_path n name
 payload-plain n name = record { first = 100; rest = encoded_path (drop 1 (payload_path n name)); is = refl; no_blank = refl }
 
 plain_each : (es : List (ℕ × File)) → All (λ f. BeginsPlain f.0) (each payload_entry es)
-plain_each [] = All-nil (λ (f : Entry). BeginsPlain f.0)
+plain_each [] = All-nil (λ (f : PathAndBytes). BeginsPlain f.0)
 plain_each (e ∷ es) = All-cons (λ f. BeginsPlain f.0) (payload_entry e) (each payload_entry es) (payload-plain e.0 e.1.name) (plain_each es)
 
 pub plain_payload : (o : Object) → All (λ f. BeginsPlain f.0) (payload o)
@@ -117,7 +117,7 @@ All-five P a b c d e p q r s t =
     All-cons P a (b ∷ c ∷ d ∷ e ∷ []) p (All-cons P b (c ∷ d ∷ e ∷ []) q (All-cons P c (d ∷ e ∷ []) r (All-cons P d (e ∷ []) s (All-cons P e [] t (All-nil P)))))
 
 -- what holds of each of the files that a tag manifest names
-pub All-listed : (P : Entry → Type 0) (o : Object) → P bagit_file → P (info_file o) → ((a : Algorithm) → P (payload_manifest a o)) → P (metadata_file o) → All P (listed_files o)
+pub All-listed : (P : PathAndBytes → Type 0) (o : Object) → P bagit_file → P (info_file o) → ((a : Algorithm) → P (payload_manifest a o)) → P (metadata_file o) → All P (listed_files o)
 All-listed P o declared reported made kept = All-five P bagit_file (info_file o) (payload_manifest Sha256 o) (payload_manifest Sha512 o) (metadata_file o) declared reported (made Sha256) (made Sha512) kept
 
 manifest-plain : (a : Algorithm) → BeginsPlain (manifest_path a)

@@ -6,7 +6,7 @@ use Rattle.std.specs.Prelude.{Result}
 use Rattle.std.specs.Result.{IsErrAnd}
 use Rattle.dep_types.specs.Sinks.{IsPrefix, file_begun, file_ended, file_given}
 use Rattle.dep_types.specs.Writing.{HasRisen, TakesPart}
-use Rattle.dep_bag.specs.Giving.{IsGivenAt, IsGiven, IsCausedBy, AccountsForFailures, SinkState, IsGivenTo}
+use Rattle.dep_bag.specs.Giving.{IsGivenAt, IsGivenOrPrefix, IsCausedBy, AccountsForFailures, SinkState, IsGivenTo}
 use Rattle.dep_bag.specs.declared.export_fault.ExportFault.{ExportFault}
 use Rattle.dep_bag.specs.declared.export_fault.ExportFault.TheVariants.{NoSuchObject, Sink, Store, Memory}
 
@@ -48,7 +48,7 @@ given_front NoSuchObject whole given f = absurd f
 given_front _ whole given f = (tt, f)
 
 -- an error that is this fault, after a front
-pub faulty : {X : Type 0} (r : Result X ExportFault) (fault : ExportFault) (whole given : List ℕ) → IsErrAnd r (λ e. e ≡ fault) → IsOurs fault → IsPrefix given whole → IsGiven whole given r
+pub faulty : {X : Type 0} (r : Result X ExportFault) (fault : ExportFault) (whole given : List ℕ) → IsErrAnd r (λ e. e ≡ fault) → IsOurs fault → IsPrefix given whole → IsGivenOrPrefix whole given r
 faulty (Ok x) fault whole given h ours f = absurd h
 faulty (Err e) fault whole given h ours f = subst (λ e. IsGivenAt e whole given) (sym h) (front_given fault whole given ours f)
 

@@ -13,11 +13,11 @@ use Rattle.sha2.specs.Sha256.{sha256, digest_bytes}
 use Rattle.sha2.specs.Sha512.{sha512, digest_bytes as digest_bytes512}
 use Rattle.sha2.proofs.Facts256.{length-sha256}
 use Rattle.sha2.proofs.Facts512.{length-sha512}
-use Rattle.dep_types.specs.Sinks.{Entry}
+use Rattle.dep_types.specs.Sinks.{PathAndBytes}
 use Rattle.dep_manifest.specs.Manifest.{Digest, IsDigest, digest_by, encoded_byte, encoded_path, manifest_of}
 use Rattle.dep_manifest.specs.declared.algorithm.Algorithm.{Algorithm}
 use Rattle.dep_manifest.specs.declared.algorithm.Algorithm.TheVariants.{Sha256, Sha512}
-use Rattle.dep_bag.specs.Valid.{Line, lines_of, parts_read, line_read, lines_read, manifest_read, digits_len, blanks_len}
+use Rattle.dep_bag.specs.Valid.{ManifestLine, lines_of, parts_read, line_read, lines_read, manifest_read, digits_len, blanks_len}
 
 pub or-parts : (a b : Bool) → (a || b) ≡ false → (a ≡ false) × (b ≡ false)
 or-parts true b e = absurd (cc)
@@ -87,11 +87,11 @@ pub encoded-no_lf : (path : List ℕ) → list_any (λ x. x == 10) (encoded_path
 encoded-no_lf path = none-flat_map (λ x. x == 10) encoded_byte byte-no_lf path
 
 -- the line of a file, read
-abbrev pub line_of : Digest → Entry → Line
+abbrev pub line_of : Digest → PathAndBytes → ManifestLine
 line_of d f = record { digits = encode_lower (d.of f.1); path = encoded_path f.0 }
 
 -- the line of a file, without its LF
-abbrev body : Digest → Entry → List ℕ
+abbrev body : Digest → PathAndBytes → List ℕ
 body d f = encode_lower (d.of f.1) ++ 32 ∷ 32 ∷ encoded_path f.0
 
 -- the path is written with a first byte that is no blank
@@ -173,13 +173,13 @@ digest_some d is m =
 pub digest_read_back : (d : Digest) → IsDigest d → (m : List ℕ) → decode_sized (encode_lower (d.of m)) d.size ≡ Ok (d.of m)
 digest_read_back d is m = decode_sized-encode_lower (d.of m) d.size (is.sized m) (is.bytes m)
 
-body-no_lf : (d : Digest) → IsDigest d → (f : Entry) → list_any (λ x. x == 10) (body d f) ≡ false
+body-no_lf : (d : Digest) → IsDigest d → (f : PathAndBytes) → list_any (λ x. x == 10) (body d f) ≡ false
 body-no_lf d is f =
     none-append (λ x. x == 10) (encode_lower (d.of f.1)) (32 ∷ 32 ∷ encoded_path f.0)
     (all_hex-no_lf (encode_lower (d.of f.1)) (digest_digits d is f.1))
     (encoded-no_lf f.0)
 
-body-read : (d : Digest) → IsDigest d → (f : Entry) → BeginsPlain f.0 → line_read (body d f) ≡ Some (line_of d f)
+body-read : (d : Digest) → IsDigest d → (f : PathAndBytes) → BeginsPlain f.0 → line_read (body d f) ≡ Some (line_of d f)
 body-read d is f h =
     subst (λ p. line_read (encode_lower (d.of f.1) ++ 32 ∷ 32 ∷ p) ≡ Some (record { digits = encode_lower (d.of f.1); path = p })) (sym h.is)
     (line_read_back (encode_lower (d.of f.1)) h.first h.rest (digest_digits d is f.1) (digest_some d is f.1) h.no_blank)
@@ -187,19 +187,19 @@ body-read d is f h =
 regroup : (d p rest : List ℕ) → (((d ++ codes "  ") ++ p) ++ codes "\n") ++ rest ≡ (d ++ 32 ∷ 32 ∷ p) ++ 10 ∷ rest
 regroup d p rest = simp append_assoc
 
-lines_of-manifest : (d : Digest) → IsDigest d → (fs : List Entry) → lines_of (manifest_of d fs) ≡ map (body d) fs ++ [] ∷ []
+lines_of-manifest : (d : Digest) → IsDigest d → (fs : List PathAndBytes) → lines_of (manifest_of d fs) ≡ map (body d) fs ++ [] ∷ []
 lines_of-manifest d is [] = refl
 lines_of-manifest d is (f ∷ fs) =
     ap lines_of (regroup (encode_lower (d.of f.1)) (encoded_path f.0) (manifest_of d fs))
     ∙ split_first (λ b. b == 10) (body d f) 10 (manifest_of d fs) (body-no_lf d is f) refl
     ∙ ap (λ l. body d f ∷ l) (lines_of-manifest d is fs)
 
-lines_read_step : (line next : List ℕ) (more : List (List ℕ)) (first : Line) (rest : List Line)
+lines_read_step : (line next : List ℕ) (more : List (List ℕ)) (first : ManifestLine) (rest : List ManifestLine)
     → line_read line ≡ Some first → lines_read (next ∷ more) ≡ Some rest → lines_read (line ∷ next ∷ more) ≡ Some (first ∷ rest)
 unfolding lines_read
 lines_read_step line next more first rest e g = rw (e, g) refl
 
-bodies_read : (d : Digest) → IsDigest d → (fs : List Entry) → All (λ f. BeginsPlain f.0) fs → lines_read (map (body d) fs ++ [] ∷ []) ≡ Some (map (line_of d) fs)
+bodies_read : (d : Digest) → IsDigest d → (fs : List PathAndBytes) → All (λ f. BeginsPlain f.0) fs → lines_read (map (body d) fs ++ [] ∷ []) ≡ Some (map (line_of d) fs)
 unfolding lines_read
 bodies_read d is [] h = refl
 bodies_read d is (f ∷ []) h = lines_read_step (body d f) [] [] (line_of d f) [] (body-read d is f (All-head (λ f. BeginsPlain f.0) f [] h)) refl
@@ -209,5 +209,5 @@ bodies_read d is (f ∷ g ∷ fs) h =
     (bodies_read d is (g ∷ fs) (All-tail (λ f. BeginsPlain f.0) f (g ∷ fs) h))
 
 -- a manifest reads as a line for each of its files
-pub manifest_read_back : (d : Digest) → IsDigest d → (fs : List Entry) → All (λ f. BeginsPlain f.0) fs → manifest_read (manifest_of d fs) ≡ Some (map (line_of d) fs)
+pub manifest_read_back : (d : Digest) → IsDigest d → (fs : List PathAndBytes) → All (λ f. BeginsPlain f.0) fs → manifest_read (manifest_of d fs) ≡ Some (map (line_of d) fs)
 manifest_read_back d is fs h = ap lines_read (lines_of-manifest d is fs) ∙ bodies_read d is fs h

@@ -6,7 +6,7 @@ use Rattle.std.proofs.KnownBytes.{Appends-nil, Appends-trans}
 use Rattle.std.proofs.lemmas.Grind.{flat_map-append}
 use Rattle.dep_types.specs.State.{State}
 use Rattle.dep_types.specs.Conditions.{Condition, Represents, HasCleanDisk, Leaves}
-use Rattle.dep_types.specs.Sinks.{Entry, IsPrefix, file_given}
+use Rattle.dep_types.specs.Sinks.{PathAndBytes, IsPrefix, file_given}
 use Rattle.dep_types.specs.declared.rows.FileRow.{FileRow}
 use Rattle.dep_types.specs.Streams.{HasContent}
 use Rattle.dep_manifest.specs.Reported.{row_path}
@@ -18,9 +18,9 @@ use Rattle.dep_bag.specs.declared.export_fault.ExportFault.{ExportFault}
 use Rattle.dep_bag.proofs.GivenParts.{IsOurs, there_is_ours, ours_there, err_keeps, cause_passed, faulty, given_front}
 
 -- the files that were given, and those of the rows that are left
-pub record IsSplit (s : State) (left : List FileRow) (files : List Entry) (given : List ℕ) : Type 0 where
-  pub done : List Entry
-  pub rest : List Entry
+pub record IsSplit (s : State) (left : List FileRow) (files : List PathAndBytes) (given : List ℕ) : Type 0 where
+  pub done : List PathAndBytes
+  pub rest : List PathAndBytes
   pub joined : files ≡ done ++ rest
   pub are : AreFilesOf s left rest
   pub is : given ≡ flat_map file_given done
@@ -32,7 +32,7 @@ pub record SoFar (old now : Condition) (before after : SinkState) (rows left : L
   pub steady : after.failures ≡ before.failures
   pub still : StandsStill old now
   pub kept : HasCleanDisk now → (s : State) → Represents old s → Represents now s
-  pub split : HasCleanDisk now → (s : State) → Represents old s → (files : List Entry) → AreFilesOf s rows files → IsSplit s left files given
+  pub split : HasCleanDisk now → (s : State) → Represents old s → (files : List PathAndBytes) → AreFilesOf s rows files → IsSplit s left files given
 
 pub none_so_far : (old : Condition) (before : SinkState) (rows : List FileRow)
     → ((s : State) → Represents old s → Leaves old (λ left. left ≡ s)) → SoFar old old before before rows rows
@@ -49,7 +49,7 @@ regroup : {X : Type 0} (done : List X) (file : X) (rest : List X) → done ++ fi
 regroup done file rest = sym (append_assoc done (file ∷ []) rest)
 
 -- one more file was given
-split_more : (s : State) (row : FileRow) (left : List FileRow) (files : List Entry) (given more : List ℕ) (done rest : List Entry)
+split_more : (s : State) (row : FileRow) (left : List FileRow) (files : List PathAndBytes) (given more : List ℕ) (done rest : List PathAndBytes)
     → files ≡ done ++ rest → AreFilesOf s (row ∷ left) rest → given ≡ flat_map file_given done
     → ((bytes : List ℕ) → HasContent s row.file bytes → more ≡ file_given (row_path row, bytes)) → IsSplit s left files (given ++ more)
 split_more s row left files given more done [] joined are is gives = absurd are
@@ -66,7 +66,7 @@ moved : (given more rest after : List ℕ) → given ++ ((more ++ rest) ++ after
 moved given more rest after = simp append_assoc
 
 -- the fault came in the middle of a file
-split_front : (s : State) (row : FileRow) (left : List FileRow) (files : List Entry) (given more : List ℕ) (done rest : List Entry)
+split_front : (s : State) (row : FileRow) (left : List FileRow) (files : List PathAndBytes) (given more : List ℕ) (done rest : List PathAndBytes)
     → files ≡ done ++ rest → AreFilesOf s (row ∷ left) rest → given ≡ flat_map file_given done
     → ((bytes : List ℕ) → HasContent s row.file bytes → IsPrefix more (file_given (row_path row, bytes))) → IsPrefix (given ++ more) (flat_map file_given files)
 split_front s row left files given more done [] joined are is gives = absurd are
@@ -121,7 +121,7 @@ one_fails {X} {Y} old mid now before between after rows i row e r inside is far 
       there = ours_there r e err ours;
     }
 
-all_done : (s : State) (files : List Entry) (given : List ℕ) (done rest : List Entry) → files ≡ done ++ rest → AreFilesOf s [] rest → given ≡ flat_map file_given done
+all_done : (s : State) (files : List PathAndBytes) (given : List ℕ) (done rest : List PathAndBytes) → files ≡ done ++ rest → AreFilesOf s [] rest → given ≡ flat_map file_given done
     → given ≡ flat_map file_given files
 all_done s files given done [] joined are is = is ∙ ap (flat_map file_given) (sym (append-nil done) ∙ sym joined)
 all_done s files given done (file ∷ rest) joined are is = absurd are

@@ -14,7 +14,7 @@ use Rattle.dep_manifest.specs.declared.algorithm.Algorithm.{Algorithm}
 use Rattle.dep_manifest.specs.declared.algorithm.Algorithm.TheVariants.{Sha256, Sha512}
 use Rattle.dep_manifest.specs.TagFiles.{oxum_text, info_text, bagit_text, manifest_path, tag_manifest_path}
 use Rattle.dep_bag.specs.Bag.{payload, oxum, listed_files, tag_files, bag_files}
-use Rattle.dep_types.specs.Sinks.{Entry}
+use Rattle.dep_types.specs.Sinks.{PathAndBytes}
 use Rattle.dep_docs_out.specs.Documents.{bag_metadata_document}
 use Rattle.dep_manifest.specs.Reported.{row_checksums, reported_oxum, reported_listed}
 use Rattle.dep_bag.specs.Parts.{reported_tag_files, reported_parts, text_part, stored_part, reported_bytes, held_bytes}
@@ -51,7 +51,7 @@ same_listed n o = λ i.
     ∷ []
 
 -- the files that a tag manifest names, and the tag manifests
-abbrev with_tag_manifests : List Entry → List Entry
+abbrev with_tag_manifests : List PathAndBytes → List PathAndBytes
 with_tag_manifests listed = listed ++ (tag_manifest_path Sha256, manifest_of (digest_by Sha256) listed) ∷ (tag_manifest_path Sha512, manifest_of (digest_by Sha512) listed) ∷ []
 
 pub same_tag_files : (n : ℕ) (o : Object) → reported_tag_files (object_view n o) ≡ tag_files o
@@ -65,7 +65,7 @@ shown_stored n o (e ∷ es) h = λ i.
     ∷ shown_stored n o es (All-tail (λ e. finmap.get o.files e.0 ≡ Some e.1) e es h) i
 
 -- texts, and the stored files
-reported_all : (n : ℕ) (o : Object) (texts : List Entry) (es : List (ℕ × File)) → All (λ e. finmap.get o.files e.0 ≡ Some e.1) es
+reported_all : (n : ℕ) (o : Object) (texts : List PathAndBytes) (es : List (ℕ × File)) → All (λ e. finmap.get o.files e.0 ≡ Some e.1) es
     → each (reported_bytes o) (each text_part texts ++ each stored_part (each (λ e. file_row n e.0 e.1) es)) ≡ each held_bytes (texts ++ each payload_entry es)
 reported_all n o [] es h = shown_stored n o es h
 reported_all n o (f ∷ texts) es h = ap (λ l. held_bytes f ∷ l) (reported_all n o texts es h)

@@ -7,11 +7,11 @@ use Rattle.std.specs.FinMap.Entries.{find}
 use Rattle.std.specs.FinMap as finmap
 use Rattle.std.proofs.lemmas.List.Elements.{All-cons, All-nil, All-map, All-weaker, All-contains, All-contains_itself, Contains-append_right}
 use Rattle.std.proofs.lemmas.List.Sorted.{Contains-permutation}
-use Rattle.dep_types.specs.Sinks.{Entry}
+use Rattle.dep_types.specs.Sinks.{PathAndBytes}
 use Rattle.dep_manifest.specs.Manifest.{digest_by, encoded_path}
 use Rattle.dep_manifest.specs.declared.algorithm.Algorithm.{Algorithm}
 use Rattle.dep_bag.specs.Bag.{Bag}
-use Rattle.dep_bag.specs.Valid.{Line, IsValidBag, ReportsFile, IsChecked, is_payload, payload_in}
+use Rattle.dep_bag.specs.Valid.{ManifestLine, IsValidBag, NamesFile, IsChecksumOf, is_payload, payload_in}
 use Rattle.dep_manifest.proofs.Encoding.{encoding_injective}
 use Rattle.dep_bag.proofs.Files.{order}
 
@@ -24,7 +24,7 @@ later-in x y xs h = Contains-append_right (x ∷ []) xs y h
 same_value : {X : Type 0} (x y : X) → Some x ≡ Some y → x ≡ y
 same_value x y e = cc
 
-found-in : (q v : List ℕ) (es : List Entry) → find order q es ≡ Some v → Contains es (q, v)
+found-in : (q v : List ℕ) (es : List PathAndBytes) → find order q es ≡ Some v → Contains es (q, v)
 found-in q v [] e = absurd (cc)
 found-in q v (f ∷ es) e =
     elim (order q f.0) as (λ r. order q f.0 ≡ r → cond (is_eq r) (Some f.1) (find order q es) ≡ Some v → Contains (f ∷ es) (q, v)) [
@@ -55,18 +55,18 @@ all_from : {X Y : Type 0} (f : X → Y) (xs : List X) → All (λ y. (x : X) × 
 all_from f xs = All-map (λ y. (x : _) × Contains xs x × (f x ≡ y)) f xs (All-weaker (Contains xs) (λ z. (x : _) × Contains xs x × (f x ≡ f z)) (λ z h. (z, h, refl)) xs (All-contains_itself xs))
 
 pub reports : (b : Bag) (valid : IsValidBag b) (a : Algorithm) (path bytes : List ℕ) → is_payload path ≡ true → finmap.get b.files path ≡ Some bytes
-    → ReportsFile (digest_by a) (valid.manifest a).lines path bytes
+    → NamesFile (digest_by a) (valid.manifest a).lines path bytes
 reports b valid a path bytes below got =
     let manifest = valid.manifest a in
-    let entry : Entry = (path, bytes) in
+    let entry : PathAndBytes = (path, bytes) in
     let es = finmap.entries b.files in
     let in_map : Contains es entry = found-in path bytes es (sym (finmap.get-entries b.files path) ∙ got) in
     let in_payload : Contains (payload_in b) entry = All-contains (λ y. is_payload y.0 ≡ true → Contains (payload_in b) y) es entry (all_kept (λ f. is_payload f.0) es) in_map below in
-    let encode = λ (f : Entry). encoded_path f.0 in
+    let encode = λ (f : PathAndBytes). encoded_path f.0 in
     let written : Contains (each encode (payload_in b)) (encoded_path path) = All-contains (λ f. Contains (each encode (payload_in b)) (encode f)) (payload_in b) entry (all_mapped encode (payload_in b)) in_payload in
     let in_lines : Contains (each (λ line. line.path) manifest.lines) (encoded_path path) = Contains-permutation (each encode (payload_in b)) (each (λ line. line.path) manifest.lines) (encoded_path path) manifest.each_once written in
-    let found = All-contains (λ y. (line : Line) × Contains manifest.lines line × (line.path ≡ y)) (each (λ line. line.path) manifest.lines) (encoded_path path) (all_from (λ (line : Line). line.path) manifest.lines) in_lines in
-    let check : IsChecked (digest_by a) b found.0 = All-contains (IsChecked (digest_by a) b) manifest.lines found.0 manifest.has.checked found.1 in
+    let found = All-contains (λ y. (line : ManifestLine) × Contains manifest.lines line × (line.path ≡ y)) (each (λ line. line.path) manifest.lines) (encoded_path path) (all_from (λ (line : ManifestLine). line.path) manifest.lines) in_lines in
+    let check : IsChecksumOf (digest_by a) b found.0 = All-contains (IsChecksumOf (digest_by a) b) manifest.lines found.0 manifest.has.checked found.1 in
     let same : check.path ≡ path = encoding_injective check.path path (sym check.named ∙ found.2) in
     let held : Some check.bytes ≡ Some bytes = sym check.held ∙ ap (finmap.get b.files) same ∙ got in
     record {

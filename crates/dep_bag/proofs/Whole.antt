@@ -15,13 +15,13 @@ use Rattle.dep_types.specs.Limits.{greatest_moment}
 use Rattle.dep_types.specs.Sound.{IsSound}
 use Rattle.dep_types.specs.BagPaths.{payload_path, tag_paths, bag_paths}
 use Rattle.dep_moment.specs.Civil.{day_text, civil_of}
-use Rattle.dep_types.specs.Sinks.{Entry}
+use Rattle.dep_types.specs.Sinks.{PathAndBytes}
 use Rattle.dep_manifest.specs.Manifest.{Digest, IsDigest, digest_by, encoded_path}
 use Rattle.dep_manifest.specs.declared.algorithm.Algorithm.{Algorithm}
 use Rattle.dep_manifest.specs.declared.algorithm.Algorithm.TheVariants.{Sha256, Sha512}
 use Rattle.dep_manifest.specs.TagFiles.{info_text, manifest_path}
 use Rattle.dep_bag.specs.Bag.{Bag, payload, payload_manifest, listed_files, tag_manifest, bag_files, bag_of, bag_at, oxum}
-use Rattle.dep_bag.specs.Valid.{IsValidBag, IsChecked, IsPayloadManifest, IsTagManifest, is_payload, payload_in, lines_of, manifest_read}
+use Rattle.dep_bag.specs.Valid.{IsValidBag, IsChecksumOf, IsPayloadManifest, IsTagManifest, is_payload, payload_in, lines_of, manifest_read}
 use Rattle.dep_bag.proofs.Lines.{line_of, IsDigest-digest_by, manifest_read_back, digest_read_back, split_first, none-append}
 use Rattle.dep_bag.proofs.Keys.{entries-permuted, entries-held, found_each}
 use Rattle.dep_bag.proofs.PayloadPaths.{decimal-none, other_byte}
@@ -29,13 +29,13 @@ use Rattle.dep_bag.proofs.Files.{order, payload_entry, bagit_file, info_file, me
 
 -- ---- each line that is written of a file that the bag holds is right
 
-abbrev IsHeld : Bag → Entry → Type 0
+abbrev IsHeld : Bag → PathAndBytes → Type 0
 IsHeld b f = finmap.get b.files f.0 ≡ Some f.1
 
-lines_checked : (d : Digest) → IsDigest d → (b : Bag) (fs : List Entry) → All (IsHeld b) fs → All (IsChecked d b) (each (line_of d) fs)
+lines_checked : (d : Digest) → IsDigest d → (b : Bag) (fs : List PathAndBytes) → All (IsHeld b) fs → All (IsChecksumOf d b) (each (line_of d) fs)
 lines_checked d is b fs h =
-    All-map (IsChecked d b) (line_of d) fs
-    (All-weaker (IsHeld b) (λ f. IsChecked d b (line_of d f))
+    All-map (IsChecksumOf d b) (line_of d) fs
+    (All-weaker (IsHeld b) (λ f. IsChecksumOf d b (line_of d f))
     (λ f held. record { path = f.0; bytes = f.1; named = refl; held = held; checksum = digest_read_back d is f.1 }) fs h)
 
 -- ---- what the bag holds
@@ -87,7 +87,7 @@ payload_permuted o small =
     subst (λ l. IsPermutation l (payload_in (bag_of o))) (payload_of_files o)
     (entries-permuted nat_list_cmp_total same_key (λ f. is_payload f.0) (bag_files o) (Distinct-files o small))
 
-paths_of_lines : (d : Digest) (fs : List Entry) → each (λ line. line.path) (each (line_of d) fs) ≡ each (λ f. encoded_path f.0) fs
+paths_of_lines : (d : Digest) (fs : List PathAndBytes) → each (λ line. line.path) (each (line_of d) fs) ≡ each (λ f. encoded_path f.0) fs
 paths_of_lines d [] = refl
 paths_of_lines d (f ∷ fs) = ap (λ l. encoded_path f.0 ∷ l) (paths_of_lines d fs)
 
@@ -97,13 +97,13 @@ each_once d o small =
     subst (λ l. IsPermutation (each (λ f. encoded_path f.0) (payload_in (bag_of o))) l) (sym (paths_of_lines d (payload o)))
     (IsPermutation-map (λ f. encoded_path f.0) (payload_in (bag_of o)) (payload o) (IsPermutation-sym (payload o) (payload_in (bag_of o)) (payload_permuted o small)))
 
-same_oxum : (xs ys : List Entry) → IsPermutation xs ys → oxum xs ≡ oxum ys
+same_oxum : (xs ys : List PathAndBytes) → IsPermutation xs ys → oxum xs ≡ oxum ys
 same_oxum xs ys h =
     λ i. decimal (sym (sum_by-IsPermutation (λ f. length f.1) xs ys h) i) ++ codes "." ++ decimal (sym (length_permutation xs ys h) i)
 
 -- ---- the lines of bag-info.txt
 
-oxum-no_lf : (fs : List Entry) → list_any (λ b. b == 10) (oxum fs) ≡ false
+oxum-no_lf : (fs : List PathAndBytes) → list_any (λ b. b == 10) (oxum fs) ≡ false
 oxum-no_lf fs =
     let p = λ (b : ℕ). b == 10 in
     let sum = decimal (sum_by (λ f. length f.1) fs) in

@@ -1,10 +1,10 @@
 -- The payload and the lists of small bags.
 use Rattle.std.specs.Prelude.{ℕ, List, [], ◌∷◌, ◌++◌, codes}
 use Rattle.dep_types.specs.BagPaths.{tag_paths, payload_path}
-use Rattle.dep_types.specs.Sinks.{Entry}
+use Rattle.dep_types.specs.Sinks.{PathAndBytes}
 
 -- five bytes in two files
-abbrev pub example_payload : List Entry
+abbrev pub example_payload : List PathAndBytes
 example_payload = (codes "data/1/a", codes "abc") ∷ (codes "data/2/b", codes "de") ∷ []
 
 -- the list of a bag without payload

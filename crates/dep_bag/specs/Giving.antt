@@ -4,7 +4,7 @@ use Rattle.std.specs.Io.KnownBytes.{Appends}
 use Rattle.dep_types.specs.State.{State}
 use Rattle.dep_types.specs.Conditions.{Condition}
 use Rattle.dep_types.specs.Writing.{HasRisen}
-use Rattle.dep_types.specs.Sinks.{Entry, folder_made, file_given, IsPrefix}
+use Rattle.dep_types.specs.Sinks.{PathAndBytes, folder_made, file_given, IsPrefix}
 use Rattle.dep_types.specs.declared.rows.FileRow.{FileRow}
 use Rattle.dep_types.specs.declared.rows.ObjectView.{ObjectView}
 use Rattle.dep_types.specs.Streams.{HasContent}
@@ -22,9 +22,9 @@ IsGivenAt Store whole given = IsPrefix given whole
 IsGivenAt Memory whole given = IsPrefix given whole
 
 -- all of it was given, or after a fault a prefix of it
-abbrev pub IsGiven : {X : Type 0} → (whole given : List ℕ) → Result X ExportFault → Type 0
-IsGiven whole given (Ok x) = given ≡ whole
-IsGiven whole given (Err fault) = IsGivenAt fault whole given
+abbrev pub IsGivenOrPrefix : {X : Type 0} → (whole given : List ℕ) → Result X ExportFault → Type 0
+IsGivenOrPrefix whole given (Ok x) = given ≡ whole
+IsGivenOrPrefix whole given (Err fault) = IsGivenAt fault whole given
 
 -- the sink's count of failures rose where the fault is the sink's, and stayed at any other
 abbrev pub IsCausedBy : ExportFault → (failures failures_after : ℕ) → Type 0
@@ -48,7 +48,7 @@ pub record IsGivenTo {X : Type 0} (old new : SinkState) (whole : List ℕ)
     (result : Result X ExportFault) : Type 0 where
   pub given : List ℕ
   pub appends : Appends old.taken new.taken given
-  pub is : IsGiven whole given result
+  pub is : IsGivenOrPrefix whole given result
   pub cause : AccountsForFailures result old.failures new.failures
 
 -- What was given as a source streams it: it is so in each state for which the source stood, and a
@@ -94,7 +94,7 @@ abbrev pub manifests_transcript : ObjectView → List ℕ
 manifests_transcript view = flat_map file_given (reported_tag_manifests view)
 
 -- these are the files of the rows: their paths, and their contents in the state
-abbrev pub AreFilesOf : State → List FileRow → List Entry → Type 0
+abbrev pub AreFilesOf : State → List FileRow → List PathAndBytes → Type 0
 AreFilesOf s [] [] = ⊤
 AreFilesOf s [] (file ∷ files) = ⊥
 AreFilesOf s (row ∷ rows) [] = ⊥
@@ -105,10 +105,10 @@ AreFilesOf s (row ∷ rows) (file ∷ files) =
 abbrev pub IsContentGiven : {X : Type 0} → FileRow → State → (given : List ℕ)
     → Result X ExportFault → Type 0
 IsContentGiven row s given result = (bytes : List ℕ) → HasContent s row.file bytes
-    → IsGiven (file_given (row_path row, bytes)) given result
+    → IsGivenOrPrefix (file_given (row_path row, bytes)) given result
 
 -- the files of the rows were given
 abbrev pub AreContentsGiven : {X : Type 0} → List FileRow → State → (given : List ℕ)
     → Result X ExportFault → Type 0
-AreContentsGiven rows s given result = (files : List Entry) → AreFilesOf s rows files
-    → IsGiven (flat_map file_given files) given result
+AreContentsGiven rows s given result = (files : List PathAndBytes) → AreFilesOf s rows files
+    → IsGivenOrPrefix (flat_map file_given files) given result

@@ -5,7 +5,7 @@ use Rattle.dep_types.specs.State.{Object}
 use Rattle.dep_types.specs.BagPaths.{tag_paths}
 use Rattle.dep_types.specs.declared.rows.FileRow.{FileRow}
 use Rattle.dep_types.specs.declared.rows.ObjectView.{ObjectView}
-use Rattle.dep_types.specs.Sinks.{Entry}
+use Rattle.dep_types.specs.Sinks.{PathAndBytes}
 use Rattle.dep_manifest.specs.declared.algorithm.Algorithm.TheVariants.{Sha256, Sha512}
 use Rattle.dep_docs_out.specs.Documents.{bag_metadata_document}
 use Rattle.dep_manifest.specs.TagFiles.{bagit_text, tag_manifest_path}
@@ -19,21 +19,21 @@ use Rattle.dep_bag.specs.declared.part.TagFile.TheVariants.{Declaration, Informa
 abbrev pub in_folder : (digits name : List ℕ) → List ℕ
 in_folder digits name = codes "data/" ++ digits ++ codes "/" ++ name
 
-abbrev pub reported_tag_manifests : ObjectView → List Entry
+abbrev pub reported_tag_manifests : ObjectView → List PathAndBytes
 reported_tag_manifests view =
     (tag_manifest_path Sha256, reported_tag_manifest Sha256 view)
     ∷ (tag_manifest_path Sha512, reported_tag_manifest Sha512 view)
     ∷ []
 
 -- the files that are not payload
-abbrev pub reported_tag_files : ObjectView → List Entry
+abbrev pub reported_tag_files : ObjectView → List PathAndBytes
 reported_tag_files view = reported_listed view ++ reported_tag_manifests view
 
 -- the paths of the bag, in order
 abbrev pub reported_paths : ObjectView → List (List ℕ)
 reported_paths view = tag_paths ++ map row_path view.files
 
-abbrev pub text_part : Entry → List ℕ × BagPart
+abbrev pub text_part : PathAndBytes → List ℕ × BagPart
 text_part file = (file.0, Bytes file.1)
 
 abbrev pub stored_part : FileRow → List ℕ × BagPart
@@ -82,5 +82,5 @@ abbrev pub reported_bytes : Object → List ℕ × BagPart → List ℕ × Optio
 reported_bytes o part = (part.0, part_bytes o part.1)
 
 -- a file of the bag, in the same form
-abbrev pub held_bytes : Entry → List ℕ × Option (List ℕ)
+abbrev pub held_bytes : PathAndBytes → List ℕ × Option (List ℕ)
 held_bytes file = (file.0, Some file.1)

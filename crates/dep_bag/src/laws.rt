@@ -8,7 +8,7 @@ ghost use Rattle.dep_types.specs.BagPaths.{bag_paths, payload_path, tag_paths};
 ghost use Rattle.dep_manifest.specs.Manifest.{digest_by, encoded_path};
 ghost use Rattle.dep_manifest.specs.declared.algorithm.Algorithm.{Algorithm};
 ghost use Rattle.dep_bag.specs.Bag.{Bag, HoldsAll, oxum, list_text, bag_of, bag_at, bag_files};
-ghost use Rattle.dep_bag.specs.Valid.{IsValidBag, ReportsFile, is_payload, lines_of};
+ghost use Rattle.dep_bag.specs.Valid.{IsValidBag, NamesFile, is_payload, lines_of};
 ghost use Rattle.dep_types.specs.Rows.{object_view};
 ghost use Rattle.dep_bag.specs.Parts.{reported_parts, reported_bytes, held_bytes};
 ghost use Rattle.dep_bag.specs.Named.{percent_encoded};
@@ -42,7 +42,7 @@ pub fn view_reports_bag()
 pub fn valid_bag_reports_each_file()
     ensures { (b : Bag) (valid : IsValidBag b) (a : Algorithm) (path bytes : List ℕ)
         → is_payload path ≡ true → map.get b.files path ≡ Some bytes
-        → ReportsFile (digest_by a) (valid.manifest a).lines path bytes }
+        → NamesFile (digest_by a) (valid.manifest a).lines path bytes }
 {}
 
 /// Of the paths of files with good names nothing but the percent sign is written otherwise.

@@ -3,7 +3,7 @@ use Rattle.std.proofs.Common.{◌≡◌, ℕ, Bool, true, ◌||◌, List, Option
 use Rattle.std.specs.Prelude.{option_map}
 use Rattle.std.specs.Option.{option_map_or}
 use Rattle.dep_types.specs.Rows.{file_row, object_row}
-use Rattle.dep_types.specs.State.{State, File as Content, Object as Kept, Texts}
+use Rattle.dep_types.specs.State.{State, File, Object, Texts}
 use Rattle.std.specs.FinMap as finmap
 use Rattle.dep_types.specs.Maps.{Numbered, ◌>>=◌}
 use Rattle.dep_types.specs.declared.rows.FileRow.{FileRow}
@@ -38,7 +38,7 @@ pub created_known : (s : State) (content : List ℕ) (d : Deposit) (ingests : Bo
     → Some (shown.Files reported) ≡ known_shown s content (Create d ingests)
 created_known s content d ingests reported is =
     ap (λ (v : ObjectView). Some (shown.Files v)) is
-    ∙ sym (ap (λ (x : Option Kept). Some (option_map_or (λ (o : Kept). shown.Files (files_view s.next.object o)) x shown.Nothing)) (get_here s.objects s.next.object (filled s content d ingests)))
+    ∙ sym (ap (λ (x : Option Object). Some (option_map_or (λ (o : Object). shown.Files (files_view s.next.object o)) x shown.Nothing)) (get_here s.objects s.next.object (filled s content d ingests)))
 
 -- what is changed at a number stands there
 at_here : {X : Type 0} (m : Numbered X) (n : ℕ) (x : X) (f : X → X) → finmap.get m n ≡ Some x → finmap.get (at m n f) n ≡ Some (f x)
@@ -46,12 +46,12 @@ at_here {X} m n x f there =
     ap (λ (o : Option X). finmap.get (option_map_or (λ (y : X). finmap.insert m n (f y)) o m) n) there ∙ get_here m n (f x)
 
 -- an object that is there
-module _ (s : State) (content : List ℕ) (n : ℕ) (o : Kept) (there : finmap.get s.objects n ≡ Some o) where
-  row_after : (f : Kept → Kept) (row : ObjectRow) → row ≡ object_row n (f o)
-      → Some (shown.ObjectRow row) ≡ Some (option_map_or (λ (x : Kept). shown.ObjectRow (object_row n x)) (finmap.get (at s.objects n f) n) shown.Nothing)
+module _ (s : State) (content : List ℕ) (n : ℕ) (o : Object) (there : finmap.get s.objects n ≡ Some o) where
+  row_after : (f : Object → Object) (row : ObjectRow) → row ≡ object_row n (f o)
+      → Some (shown.ObjectRow row) ≡ Some (option_map_or (λ (x : Object). shown.ObjectRow (object_row n x)) (finmap.get (at s.objects n f) n) shown.Nothing)
   row_after f row is =
       ap (λ (r : ObjectRow). Some (shown.ObjectRow r)) is
-      ∙ sym (ap (λ (x : Option Kept). Some (option_map_or (λ (y : Kept). shown.ObjectRow (object_row n y)) x shown.Nothing)) (at_here s.objects n o f there))
+      ∙ sym (ap (λ (x : Option Object). Some (option_map_or (λ (y : Object). shown.ObjectRow (object_row n y)) x shown.Nothing)) (at_here s.objects n o f there))
 
   pub texts_known : (texts : Texts) (row : ObjectRow) → row ≡ object_row n (with_other_texts s texts o) → Some (shown.ObjectRow row) ≡ known_shown s content (SetMetadata n texts)
   texts_known texts row is = row_after (with_other_texts s texts) row is
@@ -63,21 +63,21 @@ module _ (s : State) (content : List ℕ) (n : ℕ) (o : Kept) (there : finmap.g
       → Some (shown.Files reported) ≡ known_shown s content (Replace n d ingests)
   replaced_known d ingests reported is =
       ap (λ (v : ObjectView). Some (shown.Files v)) is
-      ∙ sym (ap (λ (x : Option Kept). Some (option_map_or (λ (y : Kept). shown.Files (files_view n y)) x shown.Nothing)) (at_here s.objects n o (λ (y : Kept). filled s content d (y.ingested || ingests)) there))
+      ∙ sym (ap (λ (x : Option Object). Some (option_map_or (λ (y : Object). shown.Files (files_view n y)) x shown.Nothing)) (at_here s.objects n o (λ (y : Object). filled s content d (y.ingested || ingests)) there))
 
   pub file_known : (f : ℕ) (new : NewFile) (row : FileRow) → row ≡ file_row n f (file_from s content new) → Some (shown.File row) ≡ known_shown s content (SetFile n f new)
   file_known f new row is =
       let file = file_from s content new in
-      let after = λ (y : Kept). with_other_files s (finmap.insert y.files f file) y in
-      let found : option_and_then (λ (y : Kept). finmap.get y.files f) (finmap.get (at s.objects n after) n) ≡ Some file =
-      ap (option_and_then (λ (y : Kept). finmap.get y.files f)) (at_here s.objects n o after there) ∙ get_here o.files f file in
+      let after = λ (y : Object). with_other_files s (finmap.insert y.files f file) y in
+      let found : option_and_then (λ (y : Object). finmap.get y.files f) (finmap.get (at s.objects n after) n) ≡ Some file =
+      ap (option_and_then (λ (y : Object). finmap.get y.files f)) (at_here s.objects n o after there) ∙ get_here o.files f file in
       ap (λ (r : FileRow). Some (shown.File r)) is
-      ∙ sym (ap (λ (x : Option Content). Some (option_map_or (λ (y : Content). shown.File (file_row n f y)) x shown.Nothing)) found)
+      ∙ sym (ap (λ (x : Option File). Some (option_map_or (λ (y : File). shown.File (file_row n f y)) x shown.Nothing)) found)
 
 -- ---- the row of the object that is touched
 
 -- what is looked at of an object is what a state has at the number of its row
-seen_again : (objects : Numbered Kept) (looked : Option ℕ) (seen : Option ObjectRow) → seen ≡ (looked >>= (λ n. option_map (object_row n) (finmap.get objects n)))
+seen_again : (objects : Numbered Object) (looked : Option ℕ) (seen : Option ObjectRow) → seen ≡ (looked >>= (λ n. option_map (object_row n) (finmap.get objects n)))
     → seen ≡ (seen >>= (λ row. option_map (object_row row.object) (finmap.get objects row.object)))
 seen_again objects None seen is = is ∙ ap (λ (x : Option ObjectRow). x >>= (λ row. option_map (object_row row.object) (finmap.get objects row.object))) (sym is)
 seen_again objects (Some n) seen is = go (finmap.get objects n) refl
@@ -85,7 +85,7 @@ seen_again objects (Some n) seen is = go (finmap.get objects n) refl
     again : Option ObjectRow → Option ObjectRow
     again x = x >>= (λ row. option_map (object_row row.object) (finmap.get objects row.object))
 
-    go : (o : Option Kept) → finmap.get objects n ≡ o → seen ≡ again seen
+    go : (o : Option Object) → finmap.get objects n ≡ o → seen ≡ again seen
     go None at = let none : seen ≡ None = is ∙ ap (option_map (object_row n)) at in none ∙ ap again (sym none)
     go (Some o) at =
         let some : seen ≡ Some (object_row n o) = is ∙ ap (option_map (object_row n)) at in
@@ -98,8 +98,8 @@ module _ (s : State) (content : List ℕ) (view : View) where
   pub shown_left : (looked : Option ℕ) → view.object ≡ (looked >>= (λ n. option_map (object_row n) (finmap.get s.objects n))) → Leaves Show view.object
   shown_left looked is = seen_again s.objects looked view.object is
 
-  module _ (n : ℕ) (o : Kept) (reported : ReportsObject view s n o) where
-    left_at : (f : Kept → Kept) (row : ObjectRow) → row ≡ object_row n (f o)
+  module _ (n : ℕ) (o : Object) (reported : ReportsObject view s n o) where
+    left_at : (f : Object → Object) (row : ObjectRow) → row ≡ object_row n (f o)
         → Some row ≡ (view.object >>= (λ was. option_map (object_row was.object) (finmap.get (at s.objects n f) was.object)))
     left_at f row is =
         ap (λ (r : ObjectRow). Some r) is
@@ -107,11 +107,11 @@ module _ (s : State) (content : List ℕ) (view : View) where
         ∙ ap (option_map (object_row n)) (at_here s.objects n o f reported.1))
 
     pub completed_left : (row : ObjectRow) → row ≡ object_row n (ingested_by true (changed s o)) → Leaves (Complete n) (Some row)
-    completed_left row is = left_at (λ (x : Kept). ingested_by true (changed s x)) row is
+    completed_left row is = left_at (λ (x : Object). ingested_by true (changed s x)) row is
 
     pub appended_left : (d : Deposit) (ingests : Bool) (row : ObjectRow) → row ≡ object_row n (appended s content d (ingested_by ingests o)) → Leaves (Append n d ingests) (Some row)
     appended_left d ingests row is =
-        left_at (λ (x : Kept). ingested_by ingests (appended s content d x)) row
+        left_at (λ (x : Object). ingested_by ingests (appended s content d x)) row
         (is ∙ ap (object_row n) (ingested_after s content d ingests o))
 
 -- so the state after has what is known

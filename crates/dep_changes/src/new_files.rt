@@ -14,7 +14,7 @@ ghost use Rattle.dep_changes.specs.Reported.{ReportsNewFile, ReportsSource, whol
 
 use crate::change::{Change, NumberedFiles, touched_object};
 use crate::objects::files_changed;
-use dep_decisions::{NewFile, ContentSource};
+use dep_decisions::{ContentSource, NewFile};
 use dep_files::{delete_file, delete_files, put_file};
 use dep_fixity::Digests;
 use dep_objects::put_object;

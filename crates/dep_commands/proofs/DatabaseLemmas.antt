@@ -8,12 +8,12 @@ use Rattle.dep_types.specs.State.{State, empty_state}
 use Rattle.dep_types.specs.Config.{IsChecked}
 use Rattle.dep_types.specs.declared.config.Config.{Config}
 use Rattle.dep_schema.specs.OpenTables.{HoldsNone}
-use Rattle.dep_schema.specs.States.{Represents, IsLeftAs, DatabaseLeaves}
+use Rattle.dep_schema.specs.States.{StoreRepresents, IsLeftAs, DatabaseLeaves}
 use Rattle.dep_schema.proofs.Transacting.{IsSettled, leaves_as_was}
 use Rattle.dep_schema.specs.declared.opening.OpenFault.{OpenFault}
 use Rattle.dep_store.specs.HashingStores.{condition_with_hashes}
 use Rattle.dep_store.specs.declared.archive.HashingStore.{HashingStore}
-use Rattle.dep_store.specs.Migrating.{Keeps, OpenLeaves}
+use Rattle.dep_store.specs.Migrating.{KeepsDatabase, OpenLeaves}
 use Rattle.dep_commands.specs.Starting.{IsGivenOrStore, IsStore, OpeningLeaves, RefusesConfig, outcome_of_start}
 use Rattle.dep_commands.specs.declared.starting.StartFault.{StartFault}
 use Rattle.dep_commands.specs.declared.starting.StartFault.TheVariants as fault
@@ -23,7 +23,7 @@ use Rattle.dep_hub.specs.declared.faults.HubFault.TheVariants as refused
 use Rattle.dep_hub.specs.declared.hub.Hub.{Hub}
 use Rattle.dep_program.specs.Serves.{all_records_of, ServesAt}
 use Rattle.dep_program.specs.declared.outcome.Outcome.{Outcome}
-use Rattle.dep_commands.specs.Databases.{IsKept, LedTo, GoesOn, ServesDatabase, serves, not_bound, unchecked, left_alone, not_begun, not_opened}
+use Rattle.dep_commands.specs.Databases.{IsKeptAsStore, LedTo, ServiceGoesOn, ServesDatabase, serves, not_bound, unchecked, left_alone, not_begun, not_opened}
 use Rattle.dep_commands.proofs.ReplayLemmas.{world_at_first}
 
 -- a stop leaves of an opening for a hub what it leaves of an opening
@@ -60,7 +60,7 @@ module _ {S : Type 0} (g : Ghosts S) (clean : (h : Held S) → IsTrue (state g h
         → (IsHonest (condition_with_hashes g) served → IsHonest (condition_with_hashes g) opened)
         → (IsClean (condition_with_hashes g) served → (first : State) (records : List Record) → RepresentsAfter (condition_with_hashes g) opened first records
         → RepresentsAfter (condition_with_hashes g) served first (records ++ more))
-        → GoesOn config (state g given) (state g served.store.store) more
+        → ServiceGoesOn config (state g given) (state g served.store.store) more
     goes_on served more same honest adds = record {
       fresh = λ is_open none. led served (same ∙ given_config) empty_state more
           (adds is_open empty_state [] (fresh (honest (clean served.store.store is_open)) none));
@@ -69,10 +69,10 @@ module _ {S : Type 0} (g : Ghosts S) (clean : (h : Held S) → IsTrue (state g h
     }
 
     -- the hub that was opened represents the state that was found
-    represents_first : (first : State) → RepresentsAfter (condition_with_hashes g) opened first [] → Represents (state g opened.store.store) first
-    represents_first first it = subst (λ (w : World). Represents (state g opened.store.store) w.state) (world_at_first it.run refl) it.at.state.represents
+    represents_first : (first : State) → RepresentsAfter (condition_with_hashes g) opened first [] → StoreRepresents (state g opened.store.store) first
+    represents_first first it = subst (λ (w : World). StoreRepresents (state g opened.store.store) w.state) (world_at_first it.run refl) it.at.state.represents
 
-    pub kept_by_hub : OpenLeaves (state g given) (state g opened.store.store) → IsKept (state g given) (state g opened.store.store)
+    pub kept_by_hub : OpenLeaves (state g given) (state g opened.store.store) → IsKeptAsStore (state g given) (state g opened.store.store)
     kept_by_hub stop = record {
       fresh = λ is_open none. represents_first empty_state (fresh (clean opened.store.store is_open) none);
       found = λ is_open s left. represents_first s (again (clean opened.store.store is_open) s left s [] begins);
@@ -92,7 +92,7 @@ module _ {S : Type 0} (g : Ghosts S) (clean : (h : Held S) → IsTrue (state g h
 
 module _ {S : Type 0} (g : Ghosts S) (given back : Held S) (clean : IsTrue (state g back).is_open → HasCleanDisk (state g back))
     (stop : OpenLeaves (state g given) (state g back)) where
-  kept_as_store : IsStore (state g given) (state g back) → IsKept (state g given) (state g back)
+  kept_as_store : IsStore (state g given) (state g back) → IsKeptAsStore (state g given) (state g back)
   kept_as_store kept = record {
     fresh = λ is_open. (kept (clean is_open)).0;
     found = λ is_open. (kept (clean is_open)).1;
@@ -102,7 +102,7 @@ module _ {S : Type 0} (g : Ghosts S) (given back : Held S) (clean : IsTrue (stat
   -- no hub was made
   pub fails : (config : Config) (count : ℕ) (start : StartFault)
       → ((f : OpenFault) → start ≡ fault.Open f → IsChecked config)
-      → ((f : OpenFault) → start ≡ fault.Open f → IsTrue (state g back).is_open → Keeps (state g given) (state g back))
+      → ((f : OpenFault) → start ≡ fault.Open f → IsTrue (state g back).is_open → KeepsDatabase (state g given) (state g back))
       → RefusesConfig config given (start, back)
       → (start ≡ fault.Hub refused.Memory → IsGivenOrStore g config given back)
       → ServesDatabase g config count given back (outcome_of_start start)
@@ -116,10 +116,10 @@ module _ {S : Type 0} (g : Ghosts S) (given back : Held S) (clean : IsTrue (stat
 
 -- a store that was opened, and stays as it is
 module _ (given mid new : db.State) (clean : IsTrue new.is_open → HasCleanDisk new) (honest : HasCleanDisk new → HasCleanDisk mid)
-    (fresh : HasCleanDisk mid → HoldsNone given.now.trees → Represents mid empty_state)
-    (found : HasCleanDisk mid → (s : State) → IsLeftAs given.now.trees s → Represents mid s) where
-  pub kept_still : (IsTrue new.is_open → (s : State) → Represents mid s → Represents new s)
-      → (HasCleanDisk new → (s : State) → Represents mid s → DatabaseLeaves new (λ left. left ≡ s)) → IsKept given new
+    (fresh : HasCleanDisk mid → HoldsNone given.now.trees → StoreRepresents mid empty_state)
+    (found : HasCleanDisk mid → (s : State) → IsLeftAs given.now.trees s → StoreRepresents mid s) where
+  pub kept_still : (IsTrue new.is_open → (s : State) → StoreRepresents mid s → StoreRepresents new s)
+      → (HasCleanDisk new → (s : State) → StoreRepresents mid s → DatabaseLeaves new (λ left. left ≡ s)) → IsKeptAsStore given new
   kept_still carries stop = record {
     fresh = λ is_open none. carries is_open empty_state (fresh (honest (clean is_open)) none);
     found = λ is_open s left. carries is_open s (found (honest (clean is_open)) s left);

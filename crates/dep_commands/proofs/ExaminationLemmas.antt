@@ -10,8 +10,8 @@ use Rattle.dep_tables.specs.Tables.{Tables}
 use Rattle.dep_tables.specs.Versions.{our_version, older_version, HasVersion}
 use Rattle.dep_schema.specs.OpenTables.{Holds, HoldsOlder, HoldsNone, StaysFile}
 use Rattle.dep_migrations.specs.FirstTables.{new_store_tables}
-use Rattle.dep_schema.specs.States.{Represents, IsLeftAs, DatabaseLeaves}
-use Rattle.dep_commands.specs.Audits.{Audits, IsBegun, object_rows}
+use Rattle.dep_schema.specs.States.{StoreRepresents, IsLeftAs, DatabaseLeaves}
+use Rattle.dep_commands.specs.Audits.{Audits, HasAuditedSome, object_rows}
 use Rattle.dep_schema.proofs.Version.{not_older}
 use Rattle.dep_store.proofs.Opened.{first_means, version_is}
 use Rattle.dep_store.specs.Migrating.{IsUpgraded, OpensOlder}
@@ -19,12 +19,12 @@ use Rattle.dep_store.proofs.Tries.{represents_still}
 use Rattle.dep_program.specs.Folders.{without_folder}
 use Rattle.dep_program.specs.declared.outcome.Outcome.{Outcome}
 use Rattle.dep_program.specs.declared.outcome.Outcome.TheVariants.{StoreFault}
-use Rattle.dep_commands.specs.Databases.{IsRefused}
+use Rattle.dep_commands.specs.Databases.{IsNotOpened}
 use Rattle.dep_commands.specs.Examinations.{AuditsDatabase, ExportsDatabase, ExportsInto}
 use Rattle.dep_commands.proofs.DatabaseLemmas.{kept_still}
 
 -- of no object anything was written
-none_begun : (t : Tables) → IsBegun t []
+none_begun : (t : Tables) → HasAuditedSome t []
 none_begun t = record {
   rows = [];
   others = object_rows t;
@@ -40,7 +40,7 @@ unfilled s object OutOfMemory = inl (inl refl)
 unfilled s object _ = inr (refl, refl)
 
 -- a database that was not opened
-module _ (old new : db.State) (refused : IsRefused old new) where
+module _ (old new : db.State) (refused : IsNotOpened old new) where
   pub audits_none : AuditsDatabase old new [] StoreFault
   audits_none = record {
     fresh = λ honest none. (new_store_tables, first_means, none_begun new_store_tables);
@@ -65,14 +65,14 @@ renewed t mid reported (inr it) = absurd (not_older (version_is t our_version ol
 
 -- a store that was opened
 module _ (given mid new : db.State) (clean : IsTrue new.is_open → HasCleanDisk new) (honest : HasCleanDisk new → HasCleanDisk mid)
-    (fresh : HasCleanDisk mid → HoldsNone given.now.trees → Represents mid empty_state)
-    (found : HasCleanDisk mid → (s : State) → IsLeftAs given.now.trees s → Represents mid s) where
+    (fresh : HasCleanDisk mid → HoldsNone given.now.trees → StoreRepresents mid empty_state)
+    (found : HasCleanDisk mid → (s : State) → IsLeftAs given.now.trees s → StoreRepresents mid s) where
   pub audits_all : (written : List ℕ) (outcome : Outcome)
       → (HasCleanDisk mid → (t : Tables) → Holds given.now.trees t → HasVersion our_version t × StaysFile mid t)
       → (HasCleanDisk mid → (t : Tables) → HoldsOlder given.now.trees t → OpensOlder t mid)
       → (HasCleanDisk new → (t : Tables) → StaysFile mid t → Audits t written outcome)
       → (IsTrue new.is_open → (t : Tables) → StaysFile mid t → StaysFile new t)
-      → (HasCleanDisk new → (s : State) → Represents mid s → DatabaseLeaves new (λ left. left ≡ s))
+      → (HasCleanDisk new → (s : State) → StoreRepresents mid s → DatabaseLeaves new (λ left. left ≡ s))
       → AuditsDatabase given new written outcome
   audits_all written outcome tables older writes still stop = record {
     fresh = λ is_honest none.
@@ -91,9 +91,9 @@ module _ (given mid new : db.State) (clean : IsTrue new.is_open → HasCleanDisk
   }
 
   pub exports_into : (object : ℕ) (sent : List ℕ) (outcome : Outcome)
-      → (HasCleanDisk new → (s : State) → Represents mid s → ExportsInto s object sent outcome)
-      → (IsTrue new.is_open → (s : State) → Represents mid s → Represents new s)
-      → (HasCleanDisk new → (s : State) → Represents mid s → DatabaseLeaves new (λ left. left ≡ s))
+      → (HasCleanDisk new → (s : State) → StoreRepresents mid s → ExportsInto s object sent outcome)
+      → (IsTrue new.is_open → (s : State) → StoreRepresents mid s → StoreRepresents new s)
+      → (HasCleanDisk new → (s : State) → StoreRepresents mid s → DatabaseLeaves new (λ left. left ≡ s))
       → ExportsDatabase given new object outcome
   exports_into object sent outcome gives still stop = record {
     given = sent;

@@ -13,8 +13,8 @@ use Rattle.dep_types.specs.Config.{IsChecked}
 use Rattle.dep_types.specs.declared.config.Config.{Config}
 use Rattle.dep_exchange.specs.Records.{World, Record, Arrive, stopped, first_world, Run, begins, goes_on, stops, breaks}
 use Rattle.dep_hub.specs.Representing.{RepresentsAt, RepresentsAfter, IsHonest}
-use Rattle.dep_connection.specs.Turns.{Turn, with_opened, Exchanges}
-use Rattle.dep_connection.specs.Conversation.{Outflow, Wire, Session, Rests, Converses, ConversesOver}
+use Rattle.dep_connection.specs.Turns.{ServedPiece, with_opened, Exchanges}
+use Rattle.dep_connection.specs.Conversation.{Outflow, WireState, Session, WireRests, Converses, ConversesOver}
 use Rattle.std.proofs.KnownBytes.{Keeps-refl}
 use Rattle.dep_connection.proofs.TalkLemmas.{conversation_run}
 use Rattle.dep_connection.specs.declared.connection.Served.{Served}
@@ -58,12 +58,12 @@ world_at_first (breaks {records} {n} {moment} {piece} {sent} found r a shut l) e
 module _ {A : Type 0} (condition : A → Condition) (may_commit : A → Bool) (shown : Outflow → Type 0) {C : Type 0} (ticks : C → ℕ → C → Type 0) (moment : ℕ) (reports : C → Type 0)
     (same : (before after : C) (m : ℕ) → reports before → ticks before m after → (m ≡ moment) × reports after) where
   -- a clock that tells one moment tells it at each turn
-  all_at : (turns : List Turn) (clock last : C) → reports clock → FoldsTo (λ before (t : Turn) after. ticks before t.moment after) clock turns last
-      → All (λ (t : Turn). t.moment ≡ moment) turns
-  all_at [] clock last p f = All-nil (λ (t : Turn). t.moment ≡ moment)
+  all_at : (turns : List ServedPiece) (clock last : C) → reports clock → FoldsTo (λ before (t : ServedPiece) after. ticks before t.moment after) clock turns last
+      → All (λ (t : ServedPiece). t.moment ≡ moment) turns
+  all_at [] clock last p f = All-nil (λ (t : ServedPiece). t.moment ≡ moment)
   all_at (t ∷ turns) clock last p f =
       let s = same clock f.0 t.moment p f.1 in
-      All-cons (λ (u : Turn). u.moment ≡ moment) t turns s.0 (all_at turns f.0 last s.1 f.2)
+      All-cons (λ (u : ServedPiece). u.moment ≡ moment) t turns s.0 (all_at turns f.0 last s.1 f.2)
 
   module _ (base : List ℕ) (before after : Session A C) (first : RepresentsAfter condition before.hub empty_state [])
       (honest : IsHonest condition after.hub) (given : before.hub.config ≡ program_config base) (reported : reports before.clock) where
@@ -96,11 +96,11 @@ module _ {A : Type 0} (condition : A → Condition) (may_commit : A → Bool) (s
     comes_to WriteFault v = replayed WriteFault (replays WriteFault v)
     comes_to Bound v = replayed Bound (replays Bound v)
 
-pub rests_same : (at : Wire) → Rests at at
+pub rests_same : (at : WireState) → WireRests at at
 rests_same at = record { pieces = Keeps-refl at.unread; reads = refl; last = refl; out = refl }
 
 -- no hub was made for it: nothing was read or written
-pub not_replayed : (base : List ℕ) (moment : ℕ) (at : Wire) (why : StartFault) → (why ≡ fault.Hub hub.Config → ¬ IsChecked (program_config base))
+pub not_replayed : (base : List ℕ) (moment : ℕ) (at : WireState) (why : StartFault) → (why ≡ fault.Hub hub.Config → ¬ IsChecked (program_config base))
     → Replays base moment at at (outcome_of_start why)
 not_replayed base moment at (fault.Hub hub.Config) refuses = refused (refuses refl) (rests_same at)
 not_replayed base moment at (fault.Hub hub.Memory) refuses = not_begun (rests_same at)

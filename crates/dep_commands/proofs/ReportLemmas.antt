@@ -16,8 +16,8 @@ use Rattle.dep_schema.specs.OpenTables.{StaysFile}
 use Rattle.dep_types.specs.Sinks.{IsPrefix}
 use Rattle.dep_files.specs.Faults.{BlamesOutlet}
 use Rattle.dep_files.specs.Fixity.{IsAudited}
-use Rattle.dep_commands.specs.Audits.{Audited, AreAudits, object_rows, damaged_line, damaged_lines, audit_lines, checked_in, damaged_in, count_line, audit_text, outcome_of_audit, IsWhole, IsBegun, Audits}
-use Rattle.dep_commands.specs.Reporting.{BlamesTransfer, IsReportedObject, IsPartOfObject, IsReported, IsReportedTo, ReportsAudit, ReportsObjects, outcome_of_fault}
+use Rattle.dep_commands.specs.Audits.{Audited, AreAudits, object_rows, damaged_line, damaged_lines, audit_lines, checked_in, damaged_in, count_line, audit_text, outcome_of_audit, AuditIsWhole, HasAuditedSome, Audits}
+use Rattle.dep_commands.specs.Reporting.{BlamesTransfer, AuditsObject, IsPartOfObject, AuditIsReported, IsReportedTo, ReportsAudit, ReportsObjects, outcome_of_fault}
 use Rattle.dep_commands.specs.declared.audit_fault.AuditFault.{AuditFault}
 use Rattle.dep_files.specs.declared.auditing.Audit.{Audit}
 use Rattle.dep_commands.specs.declared.tally.Tally.{Tally}
@@ -70,7 +70,7 @@ reported_none t tally checked damaged = (
 )
 
 -- it ended between two objects
-abbrev pub reported_so_far : (t : Tables) (after : ℕ) (written : List ℕ) (tally : Tally) → IsReportedTo t after written tally → IsBegun t written
+abbrev pub reported_so_far : (t : Tables) (after : ℕ) (written : List ℕ) (tally : Tally) → IsReportedTo t after written tally → HasAuditedSome t written
 reported_so_far t after written tally h = record {
   rows = h.rows;
   others = filter (is_after after) t.objects;
@@ -94,14 +94,14 @@ module _ (t : Tables) (ordered : IsOrdered t.objects) (after n : ℕ) (written :
   abbrev with_next : Audit → List Audited
   with_next audit = reported.reported.found ++ record { object = n; audit = audit } ∷ []
 
-  sums : (more : List ℕ) (its : Tally) (h : IsReportedObject t n more its) → (tally.checked + its.checked ≡ checked_in (with_next h.audit)) × (tally.damaged + its.damaged ≡ damaged_in (with_next h.audit))
+  sums : (more : List ℕ) (its : Tally) (h : AuditsObject t n more its) → (tally.checked + its.checked ≡ checked_in (with_next h.audit)) × (tally.damaged + its.damaged ≡ damaged_in (with_next h.audit))
   sums more its h = (
     ap₂ (λ x y. x + y) reported.reported.checked h.checked ∙ sym (sum_by_push (λ (b : Audited). b.audit.checked) reported.reported.found (record { object = n; audit = h.audit })),
     ap₂ (λ x y. x + y) reported.reported.damaged h.damaged ∙ sym (sum_by_push (λ (b : Audited). length b.audit.damaged.items) reported.reported.found (record { object = n; audit = h.audit })),
   )
 
   -- the lines of the next object were written too
-  pub reported_more : (more : List ℕ) (its sum : Tally) (count : ℕ) → IsReportedObject t n more its → sum.checked ≡ tally.checked + its.checked
+  pub reported_more : (more : List ℕ) (its sum : Tally) (count : ℕ) → AuditsObject t n more its → sum.checked ≡ tally.checked + its.checked
       → sum.damaged ≡ tally.damaged + its.damaged → length reported.rows ≡ count → IsCounted t n (written ++ more) sum (count + 1)
   reported_more more its sum count h checked damaged counted =
       let all = reported.reported in
@@ -121,7 +121,7 @@ module _ (t : Tables) (ordered : IsOrdered t.objects) (after n : ℕ) (written :
       )
 
   -- a front of them was written
-  abbrev reported_part : (part : List ℕ) → IsPartOfObject t n part → IsBegun t (written ++ part)
+  abbrev reported_part : (part : List ℕ) → IsPartOfObject t n part → HasAuditedSome t (written ++ part)
   reported_part part h =
       let all = reported.reported in
       let a : Audited = record { object = n; audit = h.audit } in
@@ -135,8 +135,8 @@ module _ (t : Tables) (ordered : IsOrdered t.objects) (after n : ℕ) (written :
         front = inl front;
       }
 
-  begun : (more : List ℕ) → ((more ≡ []) ⊎ IsPartOfObject t n more) → IsBegun t (written ++ more)
-  begun more (inl none) = subst (IsBegun t) (sym (ap (λ l. written ++ l) none ∙ append-nil written)) (reported_so_far t after written tally reported)
+  begun : (more : List ℕ) → ((more ≡ []) ⊎ IsPartOfObject t n more) → HasAuditedSome t (written ++ more)
+  begun more (inl none) = subst (HasAuditedSome t) (sym (ap (λ l. written ++ l) none ∙ append-nil written)) (reported_so_far t after written tally reported)
   begun more (inr part) = reported_part more part
 
   pub objects_fail : (more : List ℕ) (fault : AuditFault) → ((more ≡ []) ⊎ IsPartOfObject t n more) → (result : Result (Option Tally) AuditFault)
@@ -145,7 +145,7 @@ module _ (t : Tables) (ordered : IsOrdered t.objects) (after n : ℕ) (written :
   objects_fail more fault part (Err e) err = begun more part
 
   -- a sum passes 64 bits
-  pub sum_passes : (more : List ℕ) (its : Tally) → IsReportedObject t n more its → (2 ^ 64 ≤ tally.checked + its.checked) ⊎ (2 ^ 64 ≤ tally.damaged + its.damaged)
+  pub sum_passes : (more : List ℕ) (its : Tally) → AuditsObject t n more its → (2 ^ 64 ≤ tally.checked + its.checked) ⊎ (2 ^ 64 ≤ tally.damaged + its.damaged)
       → ReportsObjects t (written ++ more) (Ok None)
   sum_passes more its h many = (
     reported_part more (record { audit = h.audit; audited = h.audited; front = record { rest = []; joined = sym h.lines ∙ sym (append-nil more) } }),
@@ -157,19 +157,19 @@ module _ (t : Tables) (ordered : IsOrdered t.objects) (after n : ℕ) (written :
 
 -- all objects were told
 pub reported_all : (t : Tables) (after : ℕ) (written : List ℕ) (tally : Tally) → IsReportedTo t after written tally → IsObjectAfter after t None
-    → IsReported t (object_rows t) written tally
+    → AuditIsReported t (object_rows t) written tally
 reported_all t after written tally h none =
     let rows_are : object_rows t ≡ h.rows = h.first ∙ ap (λ l. h.rows ++ l) (no_row after t.objects (none_found (find (is_after after) t.objects) none)) ∙ append-nil h.rows in
-    subst (λ (rows : List Row). IsReported t rows written tally) (sym rows_are) h.reported
+    subst (λ (rows : List Row). AuditIsReported t rows written tally) (sym rows_are) h.reported
 
-module _ (t : Tables) (written : List ℕ) (tally : Tally) (h : IsReported t (object_rows t) written tally) where
+module _ (t : Tables) (written : List ℕ) (tally : Tally) (h : AuditIsReported t (object_rows t) written tally) where
   text_is : written ++ count_line tally.checked tally.damaged ≡ audit_text h.found
   text_is = ap₂ (λ xs ys. xs ++ ys) h.lines (ap₂ count_line h.checked h.damaged)
 
-  pub all_whole : (outcome : Outcome) → outcome ≡ outcome_of_audit tally.damaged → IsWhole t (written ++ count_line tally.checked tally.damaged) outcome
+  pub all_whole : (outcome : Outcome) → outcome ≡ outcome_of_audit tally.damaged → AuditIsWhole t (written ++ count_line tally.checked tally.damaged) outcome
   all_whole outcome is = record { found = h.found; are = h.are; text = text_is; comes = is ∙ ap outcome_of_audit h.damaged }
 
-  pub all_begun : (part : List ℕ) → IsPrefix part (count_line tally.checked tally.damaged) → IsBegun t (written ++ part)
+  pub all_begun : (part : List ℕ) → IsPrefix part (count_line tally.checked tally.damaged) → HasAuditedSome t (written ++ part)
   all_begun part f = record {
     rows = object_rows t;
     others = [];
@@ -181,7 +181,7 @@ module _ (t : Tables) (written : List ℕ) (tally : Tally) (h : IsReported t (ob
 
 -- one object
 pub reported_object : (t : Tables) (object : ℕ) (a : Audit) (files written : List ℕ) (tally : Tally) → IsAudited t object a → files ≡ a.damaged.items
-    → written ≡ flat_map (damaged_line object) files → tally.checked ≡ a.checked → tally.damaged ≡ length a.damaged.items → IsReportedObject t object written tally
+    → written ≡ flat_map (damaged_line object) files → tally.checked ≡ a.checked → tally.damaged ≡ length a.damaged.items → AuditsObject t object written tally
 reported_object t object a files written tally audited same is checked damaged =
     record { audit = a; audited = audited; lines = is ∙ ap (flat_map (damaged_line object)) same; checked = checked; damaged = damaged }
 
@@ -202,7 +202,7 @@ pub is_damaged : (damaged : ℕ) → 0 < damaged → Damaged ≡ outcome_of_audi
 is_damaged zero some = absurd (omega arith)
 is_damaged (suc n) some = refl
 
-pub fault_begun : (t : Tables) (written : List ℕ) (fault : AuditFault) (outcome : Outcome) → outcome ≡ outcome_of_fault fault → IsBegun t written → Audits t written outcome
+pub fault_begun : (t : Tables) (written : List ℕ) (fault : AuditFault) (outcome : Outcome) → outcome ≡ outcome_of_fault fault → HasAuditedSome t written → Audits t written outcome
 fault_begun t written Store outcome is so_far = subst (Audits t written) (sym is) so_far
 fault_begun t written Writer outcome is so_far = subst (Audits t written) (sym is) so_far
 
@@ -219,7 +219,7 @@ pub transfer_of : {X : Type 0} (failures failures_after : ℕ) (fault : AuditFau
 transfer_of failures failures_after Store outcome is it = no_transfer failures failures_after outcome (subst IsOther (sym is) tt) (it.others (λ said. cc said))
 transfer_of failures failures_after Writer outcome is it = record { count = λ other. absurd (other is); cause = λ said. it.cause refl }
 
-pub begun_fails : (t : Tables) (written : List ℕ) → IsBegun t written → (fault : AuditFault) (result : Result (Option Tally) AuditFault) → IsErrAnd result (λ x. x ≡ fault)
+pub begun_fails : (t : Tables) (written : List ℕ) → HasAuditedSome t written → (fault : AuditFault) (result : Result (Option Tally) AuditFault) → IsErrAnd result (λ x. x ≡ fault)
     → ReportsObjects t written result
 begun_fails t written so_far fault (Ok x) err = absurd err
 begun_fails t written so_far fault (Err e) err = so_far

@@ -57,7 +57,7 @@ outcome_of_audit zero = Done
 outcome_of_audit (suc n) = Damaged
 
 -- all objects were audited, and what was written are the lines of their damaged files, and the count
-pub record IsWhole (t : Tables) (written : List ℕ) (outcome : Outcome) : Type 0 where
+pub record AuditIsWhole (t : Tables) (written : List ℕ) (outcome : Outcome) : Type 0 where
   pub found : List Audited
   pub are : AreAudits t (object_rows t) found
   pub text : written ≡ audit_text found
@@ -65,7 +65,7 @@ pub record IsWhole (t : Tables) (written : List ℕ) (outcome : Outcome) : Type 
 
 -- the first objects were audited, and what was written is a front of the lines of their damaged files; of the count
 -- only where these are all objects
-pub record IsBegun (t : Tables) (written : List ℕ) : Type 0 where
+pub record HasAuditedSome (t : Tables) (written : List ℕ) : Type 0 where
   pub rows : List Row
   pub others : List Row
   pub first : object_rows t ≡ rows ++ others
@@ -75,9 +75,9 @@ pub record IsBegun (t : Tables) (written : List ℕ) : Type 0 where
 
 -- what an audit writes of these tables, by how it ends
 abbrev pub Audits : Tables → (written : List ℕ) → Outcome → Type 0
-Audits t written Done = IsWhole t written Done
-Audits t written Damaged = IsWhole t written Damaged
-Audits t written StoreFault = IsBegun t written
-Audits t written TransferFault = IsBegun t written
+Audits t written Done = AuditIsWhole t written Done
+Audits t written Damaged = AuditIsWhole t written Damaged
+Audits t written StoreFault = HasAuditedSome t written
+Audits t written TransferFault = HasAuditedSome t written
 Audits t written Usage = ⊥
 Audits t written NoSuchObject = ⊥

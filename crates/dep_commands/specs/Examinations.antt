@@ -12,11 +12,11 @@ use Rattle.dep_commands.specs.Audits.{Audits}
 use Rattle.dep_commands.specs.Exports.{Exports}
 use Rattle.dep_program.specs.declared.outcome.Outcome.{Outcome}
 use Rattle.dep_program.specs.declared.outcome.Outcome.TheVariants.{StoreFault, TransferFault}
-use Rattle.dep_commands.specs.Databases.{IsKept, IsRefused}
+use Rattle.dep_commands.specs.Databases.{IsKeptAsStore, IsNotOpened}
 
 -- it stays as a store; or it was not opened, which is a fault of the store
-abbrev pub Stays : (old new : db.State) → Outcome → Type 0
-Stays old new outcome = IsKept old new ⊎ ((outcome ≡ StoreFault) × IsRefused old new)
+abbrev pub StaysAsStore : (old new : db.State) → Outcome → Type 0
+StaysAsStore old new outcome = IsKeptAsStore old new ⊎ ((outcome ≡ StoreFault) × IsNotOpened old new)
 
 -- so do tables that represent no state, and those of version 1 are now of version 2
 pub record AreOpened (old new : db.State) : Type 0 where
@@ -27,7 +27,7 @@ pub record AreOpened (old new : db.State) : Type 0 where
 
 abbrev pub ExaminationKeepsTables : (old new : db.State) → Outcome → Type 0
 ExaminationKeepsTables old new outcome =
-    AreOpened old new ⊎ ((outcome ≡ StoreFault) × IsRefused old new)
+    AreOpened old new ⊎ ((outcome ≡ StoreFault) × IsNotOpened old new)
 
 -- it was written of the tables that those of version 1 become, or nothing was
 abbrev pub AuditsOlder : Tables → (written : List ℕ) → Outcome → Type 0
@@ -43,7 +43,7 @@ pub record AuditsDatabase (old new : db.State) (written : List ℕ) (outcome : O
   pub found : HasCleanDisk new → (t : Tables) → Holds old.now.trees t → Audits t written outcome
   pub older : HasCleanDisk new → (t : Tables) → HoldsOlder old.now.trees t
       → HasVersion older_version t → AuditsOlder t written outcome
-  pub stays : Stays old new outcome
+  pub stays : StaysAsStore old new outcome
   pub tables : ExaminationKeepsTables old new outcome
 
 -- a folder is given what an export gives it, by its outcome; or there is no such folder, and nothing was given
@@ -57,4 +57,4 @@ pub record ExportsDatabase (old new : db.State) (object : ℕ) (outcome : Outcom
   pub fresh : HasCleanDisk new → HoldsNone old.now.trees → ExportsInto empty_state object given outcome
   pub found : HasCleanDisk new → (s : State) → IsLeftAs old.now.trees s
       → ExportsInto s object given outcome
-  pub stays : Stays old new outcome
+  pub stays : StaysAsStore old new outcome

@@ -10,7 +10,7 @@ use Rattle.dep_types.specs.Config.{IsChecked}
 use Rattle.dep_types.specs.declared.config.Config.{Config}
 use Rattle.dep_schema.specs.OpenTables.{HoldsNone}
 use Rattle.sqlite_trees.specs.declared.store.Store.{Ghosts}
-use Rattle.dep_schema.specs.States.{IsLeftAs, Represents, DatabaseLeaves}
+use Rattle.dep_schema.specs.States.{IsLeftAs, StoreRepresents, DatabaseLeaves}
 use Rattle.dep_exchange.specs.Records.{Record, Run, first_world, stopped}
 use Rattle.dep_hub.specs.Representing.{RepresentsAfter, IsHonest}
 use Rattle.dep_hub.specs.declared.hub.Hub.{Hub}
@@ -57,8 +57,8 @@ RefusesConfig config given e =
 
 -- the database is one of a store: a new one where it had no table, and else of what a stop left
 abbrev pub IsStore : (old new : db.State) → Type 0
-IsStore old new = HasCleanDisk new → (HoldsNone old.now.trees → Represents new empty_state)
-    × ((found : State) → IsLeftAs old.now.trees found → Represents new found)
+IsStore old new = HasCleanDisk new → (HoldsNone old.now.trees → StoreRepresents new empty_state)
+    × ((found : State) → IsLeftAs old.now.trees found → StoreRepresents new found)
 
 -- There was no memory for a hub. The database is as it was given, or, where the configuration was checked, one of a store.
 abbrev pub IsGivenOrStore : {S : Type 0} → (g : Ghosts S) → Config → (given back : Held S) → Type 0

@@ -11,7 +11,7 @@ use std::alloc::Global;
 
 /// A line of two numbers, each behind a text.
 #[derive(Clone, Copy)]
-struct Line<'a> {
+struct NumbersLine<'a> {
     before: &'a str,
     first: u64,
     between: &'a str,
@@ -29,7 +29,7 @@ pub(crate) fn write_damaged<W: Outlet>(
         (flat_map (damaged_line object) files.now) result }
 {
     'files: for file in files {
-        let line = Line {
+        let line = NumbersLine {
             before: "damaged ",
             first: object,
             between: " ",
@@ -49,7 +49,7 @@ pub(crate) fn write_count<W: Outlet>(
     ensures { WritesTo W.taken W.failures out.old out.new
         (count_line tally.checked tally.damaged) result }
 {
-    let line = Line {
+    let line = NumbersLine {
         before: "files ",
         first: tally.checked,
         between: " damaged ",
@@ -58,7 +58,11 @@ pub(crate) fn write_count<W: Outlet>(
     write_line(alloc, &line, out)
 }
 
-fn write_line<W: Outlet>(alloc: Global, line: &Line<'_>, out: &mut W) -> Result<(), AuditFault>
+fn write_line<W: Outlet>(
+    alloc: Global,
+    line: &NumbersLine<'_>,
+    out: &mut W,
+) -> Result<(), AuditFault>
     ensures { WritesTo W.taken W.failures out.old out.new
         (two_numbers line.now.before.now line.now.first line.now.between.now line.now.second) result }
 {
@@ -67,7 +71,7 @@ fn write_line<W: Outlet>(alloc: Global, line: &Line<'_>, out: &mut W) -> Result<
     Ok(())
 }
 
-fn spell(alloc: Global, line: &Line<'_>) -> Result<String, StoreFault>
+fn spell(alloc: Global, line: &NumbersLine<'_>) -> Result<String, StoreFault>
     ensures { IfOk result (λ text. string_bytes text
         ≡ two_numbers line.now.before.now line.now.first line.now.between.now line.now.second) }
 {

@@ -6,7 +6,7 @@ ghost use Rattle.dep_tables.specs.Tables.{Tables};
 ghost use Rattle.dep_schema.specs.OpenTables.{StaysFile};
 ghost use Rattle.dep_commands.specs.Audits.{Audits};
 ghost use Rattle.dep_store.specs.Staying.{KeepsTables};
-ghost use Rattle.dep_commands.specs.Reporting.{ReportsAudit, ReportsObjects, Reports, WritesOf, BlamesTransfer, outcome_of_fault};
+ghost use Rattle.dep_commands.specs.Reporting.{ReportsAudit, ReportsObjects, WritesReport, WritesOf, BlamesTransfer, outcome_of_fault};
 
 use crate::audit_fault::AuditFault;
 use crate::lines::{write_count, write_damaged};
@@ -60,7 +60,7 @@ fn report_objects<S: Alter, W: Outlet, P: Watch>(
     out: &mut W,
     watch: &mut P,
 ) -> Result<Option<Tally>, AuditFault>
-    ensures { Reports (state S.Store store.old) (state S.Store store.new)
+    ensures { WritesReport (state S.Store store.old) (state S.Store store.new)
         W.taken W.failures out.old out.new result ReportsObjects }
 {
     let mut tally = Tally {
@@ -90,7 +90,7 @@ fn report_object<S: Alter, W: Outlet, P: Watch>(
     out: &mut W,
     watch: &mut P,
 ) -> Result<Tally, AuditFault>
-    ensures reports { Reports (state S.Store store.old) (state S.Store store.new)
+    ensures reports { WritesReport (state S.Store store.old) (state S.Store store.new)
         W.taken W.failures out.old out.new result (λ t. ReportsAudit t object) }
     ensures kept { HasCleanDisk (state S.Store store.new) → (t : Tables)
         → StaysFile (state S.Store store.old) t → OnOk result (StaysFile (state S.Store store.new) t) }

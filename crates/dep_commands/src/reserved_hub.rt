@@ -3,7 +3,7 @@ ghost use Rattle.std.specs.Prelude.{◌≡◌, false, IfOk, IfErr, IsTrue};
 ghost use Rattle.sqlite.specs.Held.{state};
 ghost use Rattle.dep_types.specs.Config.{IsChecked};
 ghost use Rattle.dep_hub.specs.Representing.{GoesOnFrom};
-ghost use Rattle.dep_store.specs.Migrating.{Keeps};
+ghost use Rattle.dep_store.specs.Migrating.{KeepsDatabase};
 ghost use Rattle.dep_commands.specs.Starting.{IsGivenOrStore, IsOpened, OpeningLeaves, RefusesConfig};
 ghost use Rattle.dep_commands.specs.Reserved.{reserved_condition};
 
@@ -34,7 +34,7 @@ pub fn open_reserved_hub<S: Alter, R: Reserve + Drop>(
         → IsChecked config) }
     ensures left { IfErr result (λ e. (fault : OpenFault) → e.0 ≡ StartFault.Open fault
         → IsTrue (state S.Store e.1).is_open
-        → Keeps (state S.Store connection) (state S.Store e.1)) }
+        → KeepsDatabase (state S.Store connection) (state S.Store e.1)) }
     ensures refused { IfErr result (RefusesConfig config connection) }
     ensures kept { IfErr result (λ e. e.0 ≡ StartFault.Hub HubFault.Memory
         → IsGivenOrStore S.Store config connection e.1) }

@@ -6,7 +6,7 @@ ghost use Rattle.dep_types.specs.State.{empty_state};
 ghost use Rattle.dep_types.specs.Config.{IsChecked};
 ghost use Rattle.dep_schema.specs.OpenTables.{HoldsNone, IsOpenable};
 ghost use Rattle.dep_store.specs.Causes.{FailsToOpenTables};
-ghost use Rattle.dep_store.specs.Migrating.{Keeps};
+ghost use Rattle.dep_store.specs.Migrating.{KeepsDatabase};
 ghost use Rattle.dep_commands.specs.Starting.{GoesOnFromStop, IsGivenOrStore, OpeningLeaves, RefusesConfig, outcome_of_start};
 ghost use Rattle.dep_hub.specs.Representing.{RepresentsAfter, IsClean, IsHonest};
 ghost use Rattle.dep_store.specs.HashingStores.{condition_with_hashes};
@@ -94,7 +94,7 @@ pub fn open_hub<S: Alter, W: Watch>(
     // tables than ours.
     ensures left { IfErr result (λ e. (fault : OpenFault) → e.0 ≡ StartFault.Open fault
         → IsTrue (state S.Store e.1).is_open
-        → Keeps (state S.Store connection) (state S.Store e.1)) }
+        → KeepsDatabase (state S.Store connection) (state S.Store e.1)) }
     // It says why the database was not opened.
     ensures reported { IfErr result (λ e. (fault : OpenFault) → e.0 ≡ StartFault.Open fault
         → HasCleanDisk (state S.Store e.1)

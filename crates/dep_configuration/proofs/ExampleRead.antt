@@ -10,7 +10,7 @@ use Rattle.json.specs.Token.{Token}
 use Rattle.json.specs.Lex.{Lexeme, token, comma, colon, between, fresh, lex, punctuate}
 use Rattle.json.specs.Json.{Json, Members, no_members, member, object, document, value, items, members, max_depth, if_last}
 use Rattle.json.specs.Strict.{keys}
-use Rattle.dep_configuration.specs.Configured.{HasConfig, HasConfiguration, HasLimits}
+use Rattle.dep_configuration.specs.Configured.{HasConfig, HasConfiguration, GivesLimits}
 use Rattle.dep_docs_out.specs.ExampleDocuments.{example_config}
 use Rattle.dep_configuration.specs.Example.{example_configuration, example_limits}
 use Rattle.dep_configuration.specs.Fields.{bounds_of, configuration_key}
@@ -199,7 +199,7 @@ example-names = record {
       (IsDistinct-from_count nat_list_eq_equiv (keys example_members) refl);
 }
 
-example-limits : HasLimits example_limits (object example_members)
+example-limits : GivesLimits example_limits (object example_members)
 unfolding configuration_key bounds_of number_within example_members
 example-limits = record { idle = refl; rate = refl; all = refl; address = refl; spool = refl; unfinished = refl }
 

@@ -10,7 +10,7 @@ use Rattle.dep_configuration.specs.declared.configuration.ServerLimits.{ServerLi
 use Rattle.dep_configuration.specs.declared.field.ConfigurationField.TheVariants.{Port, Database, SpoolFolder, StopFile, Base, Title, Abstract, Depositor, OnBehalfOf, RequireIfMatch, MaxUpload, MaxAssembled, MaxSegments, StagingMaxIdle, IdleSeconds, LeastRate, Connections, AddressConnections, SpoolBytes, UnfinishedBytes, ReserveBytes}
 
 -- a value gives these limits
-pub record HasLimits (limits : ServerLimits) (j : Json) : Type 0 where
+pub record GivesLimits (limits : ServerLimits) (j : Json) : Type 0 where
   pub idle : number_or_default IdleSeconds 60 j ≡ Some limits.idle_seconds
   pub rate : number_or_default LeastRate 4096 j ≡ Some limits.least_rate
   pub all : optional_number_of Connections j ≡ Some limits.connections
@@ -39,11 +39,11 @@ pub record HasConfiguration (c : Configuration) (j : Json) : Type 0 where
   pub spool_folder : filled_text_of SpoolFolder j ≡ Some c.spool_folder
   pub stop_file : text_or_default StopFile [] j ≡ Some c.stop_file
   pub config : HasConfig c.config j
-  pub limits : HasLimits c.limits j
+  pub limits : GivesLimits c.limits j
   pub reserve : number_or_default ReserveBytes 33554432 j ≡ Some c.reserve_bytes
 
 -- a value gives fields alone, each once, which are the configuration, and a server can be set up with it
-pub record IsRead (c : Configuration) (j : Json) : Type 0 where
+pub record IsConfigurationRead (c : Configuration) (j : Json) : Type 0 where
   pub names : GivesFields j
   pub given : HasConfiguration c j
   pub checked : IsChecked c.config
@@ -52,4 +52,4 @@ pub record IsRead (c : Configuration) (j : Json) : Type 0 where
 pub record IsConfiguration (c : Configuration) (text : List ℕ) : Type 0 where
   pub json : Json
   pub reads : document text ≡ Some json
-  pub read : IsRead c json
+  pub read : IsConfigurationRead c json

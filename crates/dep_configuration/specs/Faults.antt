@@ -44,7 +44,7 @@ abbrev pub AreReadable : Json → Type 0
 AreReadable j = (field : ConfigurationField) → IsReadable field j
 
 -- all fields are readable, and this one is one of which that is wanted
-pub record Gives (field : ConfigurationField) (wants : Wanted) (j : Json) : Type 0 where
+pub record GivesField (field : ConfigurationField) (wants : Wanted) (j : Json) : Type 0 where
   pub readable : AreReadable j
   pub wanted : wanted_of field ≡ wants
 

@@ -4,8 +4,8 @@ ghost use Rattle.json.specs.Json.{document};
 ghost use Rattle.json.specs.Value.{value_view};
 ghost use Rattle.dep_configuration.specs.declared.fault.ConfigurationFault.TheVariants.{Invalid, Memory};
 ghost use Rattle.dep_types.specs.Base.{IsBase};
-ghost use Rattle.dep_types.specs.Config.{IsChecked, HasLimits as IsLimited};
-ghost use Rattle.dep_configuration.specs.Configured.{HasConfig, HasConfiguration, HasLimits, IsConfiguration, IsRead};
+ghost use Rattle.dep_types.specs.Config.{IsChecked, HasLimits};
+ghost use Rattle.dep_configuration.specs.Configured.{HasConfig, HasConfiguration, GivesLimits, IsConfiguration, IsConfigurationRead};
 ghost use Rattle.dep_configuration.specs.Faults.{AreReadable, IsFirstFault, IsRefusedBy};
 
 use crate::checks::check_fields;
@@ -76,7 +76,7 @@ impl Configuration {
 }
 
 fn read_value(alloc: Global, value: &Value<'_>) -> Result<Configuration, ConfigurationFault>
-    ensures read { IfOk result (λ c. IsRead c (value_view value.now)) }
+    ensures read { IfOk result (λ c. IsConfigurationRead c (value_view value.now)) }
     ensures refused { IfErr result (λ e. (e ≡ Memory) ⊎ IsFirstFault e (value_view value.now)) }
 {
     check_names(alloc, value)?;
@@ -93,7 +93,7 @@ fn read_value(alloc: Global, value: &Value<'_>) -> Result<Configuration, Configu
 
 // Whether a server can be set up so, which has its limits.
 fn check_config(alloc: Global, config: &Config) -> Result<(), ConfigurationFault>
-    requires { IsLimited config.now }
+    requires { HasLimits config.now }
     ensures checked { OnOk result (IsChecked config.now) }
     ensures refused { IfErr result (λ e. (e ≡ Memory)
         ⊎ ((e ≡ Invalid ConfigurationField.Base) × (¬ IsBase config.now.base))) }
@@ -166,7 +166,7 @@ fn config_in(alloc: Global, value: &Value<'_>) -> Result<Config, AllocError>
 #[tactic(auto, unfolding(crate::specs::Fields::wanted_of, crate::specs::Fields::bounds_of))]
 fn limits_in(value: &Value<'_>) -> ServerLimits
     requires { AreReadable (value_view value.now) }
-    ensures { HasLimits result (value_view value.now) }
+    ensures { GivesLimits result (value_view value.now) }
 {
     ServerLimits {
         idle_seconds: number(value, ConfigurationField::IdleSeconds, 60),

@@ -4,7 +4,7 @@ ghost use Rattle.json.specs.Value.{value_view};
 ghost use Rattle.dep_configuration.specs.Fields.{bounds_of};
 ghost use Rattle.dep_configuration.specs.declared.field.Wanted.TheVariants.{AnyText, FilledText, Flag, WholeNumber};
 ghost use Rattle.dep_configuration.specs.declared.field.Wanted.TheVariants as Kind;
-ghost use Rattle.dep_configuration.specs.Faults.{Gives};
+ghost use Rattle.dep_configuration.specs.Faults.{GivesField};
 ghost use Rattle.dep_configuration.specs.Readings.{filled_text_of, flag_of, given_number, given_text, number_or_default, number_within, optional_number_of, text_or_default, IsAddressOf};
 
 use crate::field::{Bounds, ConfigurationField};
@@ -21,7 +21,7 @@ pub(crate) fn text(
     field: ConfigurationField,
     default: &'static str,
 ) -> Result<Text, AllocError>
-    requires { Gives field AnyText (value_view value.now) }
+    requires { GivesField field AnyText (value_view value.now) }
     ensures { IfOk result (λ text. text_or_default field default.now (value_view value.now) ≡ Some text) }
 {
     Text::copied(alloc, given_text(value, field).unwrap_or(default))
@@ -33,7 +33,7 @@ pub(crate) fn filled_text(
     value: &Value<'_>,
     field: ConfigurationField,
 ) -> Result<Text, AllocError>
-    requires { Gives field FilledText (value_view value.now) }
+    requires { GivesField field FilledText (value_view value.now) }
     ensures { IfOk result (λ text. filled_text_of field (value_view value.now) ≡ Some text) }
 {
     Text::copied(alloc, given_text(value, field).unwrap())
@@ -41,7 +41,7 @@ pub(crate) fn filled_text(
 
 /// A copy of the text of the base, which has to be given.
 pub(crate) fn base(alloc: Global, value: &Value<'_>) -> Result<Text, AllocError>
-    requires { Gives ConfigurationField.Base Kind.Base (value_view value.now) }
+    requires { GivesField ConfigurationField.Base Kind.Base (value_view value.now) }
     ensures { IfOk result (λ text. given_text ConfigurationField.Base (value_view value.now) ≡ Some text) }
 {
     Text::copied(alloc, given_text(value, ConfigurationField::Base).unwrap())
@@ -49,7 +49,7 @@ pub(crate) fn base(alloc: Global, value: &Value<'_>) -> Result<Text, AllocError>
 
 /// The truth value of a field, which is false where it isn't given.
 pub(crate) fn flag(value: &Value<'_>, field: ConfigurationField) -> bool
-    requires { Gives field Flag (value_view value.now) }
+    requires { GivesField field Flag (value_view value.now) }
     ensures { flag_of field (value_view value.now) ≡ Some result }
 {
     match value.get(field.name()) {
@@ -60,7 +60,7 @@ pub(crate) fn flag(value: &Value<'_>, field: ConfigurationField) -> bool
 
 /// The IP address to listen at: 127.0.0.1 where none is given.
 pub(crate) fn address(value: &Value<'_>) -> IpAddr
-    requires { Gives ConfigurationField.Address Kind.Address (value_view value.now) }
+    requires { GivesField ConfigurationField.Address Kind.Address (value_view value.now) }
     ensures { IsAddressOf (value_view value.now) result }
 {
     let Some(text) = given_text(value, ConfigurationField::Address) else {
@@ -74,7 +74,7 @@ pub(crate) fn address(value: &Value<'_>) -> IpAddr
 
 /// The number of a field, or the default, which has to be within its bounds.
 pub(crate) fn number(value: &Value<'_>, field: ConfigurationField, default: u64) -> u64
-    requires { Gives field (WholeNumber (bounds_of field)) (value_view value.now) }
+    requires { GivesField field (WholeNumber (bounds_of field)) (value_view value.now) }
     ensures { number_or_default field default (value_view value.now) ≡ Some result }
 {
     given_number(value, field).unwrap_or(default)
@@ -82,7 +82,7 @@ pub(crate) fn number(value: &Value<'_>, field: ConfigurationField, default: u64)
 
 /// The number of a field, where it is given.
 pub(crate) fn optional_number(value: &Value<'_>, field: ConfigurationField) -> Option<u64>
-    requires { Gives field (WholeNumber (bounds_of field)) (value_view value.now) }
+    requires { GivesField field (WholeNumber (bounds_of field)) (value_view value.now) }
     ensures { optional_number_of field (value_view value.now) ≡ Some result }
 {
     given_number(value, field)

@@ -11,7 +11,7 @@ use Rattle.dep_exchange.specs.Machine.{answer_at_place, Fails, given_up, cut_sho
 use Rattle.dep_exchange.specs.Stops.{LeftByFailure, LeftByServing}
 use Rattle.dep_exchange.specs.Records.{World, Line, with_line, Record, stopped, first_world, Run, goes_on, stops, Arrives, at_live, at_shut_line, LeftByArrival, arrives}
 use Rattle.dep_hub.specs.Representing.{IsKeptAs, IsArrival, KeepsLines, RepresentsAt, IsClean, IsHonest, intake_of, store_of}
-use Rattle.dep_connection.specs.Turns.{Turn, record_of, last_answer, Exchanges, none_yet, one_more, LeftByExchanges}
+use Rattle.dep_connection.specs.Turns.{ServedPiece, record_of, last_answer, Exchanges, none_yet, one_more, LeftByExchanges}
 use Rattle.dep_connection.specs.Conversation.{Outflow, Talks, WorksAhead, silent, turn, ahead}
 use Rattle.dep_hub.specs.declared.hub.Hub.{Hub}
 use Rattle.dep_exchange.specs.declared.arrived.Arrived.{Arrived}
@@ -20,17 +20,17 @@ use Rattle.dep_exchange.proofs.Leaving.{Settles, stays_as, leaves_wider, leaves_
 use Rattle.dep_hub.proofs.HubLemmas.{stopped_run}
 use Rattle.dep_exchange.proofs.ShutLemmas.{there_sent}
 
-pub map_more : (n : ℕ) (turns : List Turn) (t : Turn) → map (record_of n) (turns ++ t ∷ []) ≡ map (record_of n) turns ++ record_of n t ∷ []
+pub map_more : (n : ℕ) (turns : List ServedPiece) (t : ServedPiece) → map (record_of n) (turns ++ t ∷ []) ≡ map (record_of n) turns ++ record_of n t ∷ []
 map_more n [] t = refl
 map_more n (u ∷ turns) t = ap (λ l. record_of n u ∷ l) (map_more n turns t)
 
-pub last_more : (turns : List Turn) (t : Turn) → last_answer (turns ++ t ∷ []) ≡ t.answer
+pub last_more : (turns : List ServedPiece) (t : ServedPiece) → last_answer (turns ++ t ∷ []) ≡ t.answer
 last_more [] t = refl
 last_more (u ∷ []) t = refl
 last_more (u ∷ v ∷ turns) t = last_more (v ∷ turns) t
 
 -- the records of the turns
-pub exchanges_run : (config : Config) (n : ℕ) (first : State) (records : List Record) (w v : World) (turns : List Turn)
+pub exchanges_run : (config : Config) (n : ℕ) (first : State) (records : List Record) (w v : World) (turns : List ServedPiece)
     → Run config first records w → Exchanges config n w turns v → Run config first (records ++ map (record_of n) turns) v
 exchanges_run config n first records w v turns r none_yet = subst (λ rs. Run config first rs w) (sym (append-nil records)) r
 exchanges_run config n first records w v turns r (one_more {turns = before} {w = mid} {left} {line} t x stays a) =
@@ -39,7 +39,7 @@ exchanges_run config n first records w v turns r (one_more {turns = before} {w =
     (goes_on (exchanges_run config n first records w mid before r x) (arrives a))
 
 -- a stop that leaves what it may leave at the end of the turns
-exchanges_stop : (config : Config) (n : ℕ) (first : State) (records : List Record) (w v : World) (turns : List Turn)
+exchanges_stop : (config : Config) (n : ℕ) (first : State) (records : List Record) (w v : World) (turns : List ServedPiece)
     → Run config first records w → (x : Exchanges config n w turns v) (found : State) → LeftByExchanges x found
     → Run config first ((records ++ map (record_of n) turns) ++ stopped ∷ []) (first_world found)
 exchanges_stop config n first records w v turns r none_yet found e =
@@ -69,7 +69,7 @@ own_left : {config : Config} {piece : List ℕ} {moment : ℕ} {line after : Lin
 own_left (at_live serves) = serving_left serves
 own_left at_shut_line = refl
 
-end_left : {config : Config} {n : ℕ} {first w : World} {turns : List Turn} (e : Exchanges config n first turns w) → LeftByExchanges e w.state
+end_left : {config : Config} {n : ℕ} {first w : World} {turns : List ServedPiece} (e : Exchanges config n first turns w) → LeftByExchanges e w.state
 end_left none_yet = refl
 end_left (one_more t e stays a) = own_left a
 
@@ -101,7 +101,7 @@ left_along : {piece : List ℕ} {moment : ℕ} {line after : Line} {s left : Sta
 left_along {piece} {moment} {line} {after} {s} {left} {sent} {answer} given config same a found l =
     (subst (λ (x : Config). (b : Arrives x piece moment line s sent left after answer) × LeftByArrival b found) same (a, l)).1
 
-pub exchanged_along : {n : ℕ} {first w : World} {turns : List Turn} (given config : Config) (same : given ≡ config)
+pub exchanged_along : {n : ℕ} {first w : World} {turns : List ServedPiece} (given config : Config) (same : given ≡ config)
     (e : Exchanges given n first turns w) (found : State) → LeftByExchanges e found
     → LeftByExchanges (subst (λ (x : Config). Exchanges x n first turns w) same e) found
 exchanged_along {n} {first} {w} {turns} given config same e found l =
@@ -118,7 +118,7 @@ module _ {A : Type 0} (condition : A → Condition) where
 
   -- What the machine comes to by the turns. While the store is open the hub stands at it; where the connection is left open, the
   -- hub keeps its lines, and a crash leaves its state, also where the store was shut since.
-  pub record Exchanged (config : Config) (n : ℕ) (new : Hub A) (turns : List Turn) (w : World) : Type 0 where
+  pub record Exchanged (config : Config) (n : ℕ) (new : Hub A) (turns : List ServedPiece) (w : World) : Type 0 where
     pub talked : World
     pub exchanges : Exchanges config n w turns talked
     pub kept : last_answer turns ≡ StaysOpen → KeepsLines condition new talked.line
@@ -128,7 +128,7 @@ module _ {A : Type 0} (condition : A → Condition) where
     pub stop : Leaves (store_of condition new) (LeftByExchanges exchanges)
 
   -- one turn more, over a store that is open
-  exchange_open : (config : Config) (n : ℕ) (mid new : Hub A) (between failures_after : ℕ) (before : List Turn) (t : Turn) (w : World) → last_answer before ≡ StaysOpen → mid.config ≡ config
+  exchange_open : (config : Config) (n : ℕ) (mid new : Hub A) (between failures_after : ℕ) (before : List ServedPiece) (t : ServedPiece) (w : World) → last_answer before ≡ StaysOpen → mid.config ≡ config
       → IsArrival condition mid new n t.piece t.moment t.sent between failures_after t.answer → IsHonest condition new → IsClean condition mid
       → Exchanged config n mid before w → Exchanged config n new (before ++ t ∷ []) w
   exchange_open config n mid new between failures_after before t w stays same a honest is_open h =
@@ -145,7 +145,7 @@ module _ {A : Type 0} (condition : A → Condition) where
       }
 
   -- one turn more, over a store that was shut since the last one
-  exchange_shut : (config : Config) (n : ℕ) (mid new : Hub A) (between failures_after : ℕ) (before : List Turn) (t : Turn) (w : World) → last_answer before ≡ StaysOpen → mid.config ≡ config
+  exchange_shut : (config : Config) (n : ℕ) (mid new : Hub A) (between failures_after : ℕ) (before : List ServedPiece) (t : ServedPiece) (w : World) → last_answer before ≡ StaysOpen → mid.config ≡ config
       → IsArrival condition mid new n t.piece t.moment t.sent between failures_after t.answer → IsHonest condition new → ¬ IsClean condition mid
       → Exchanged config n mid before w → Exchanged config n new (before ++ t ∷ []) w
   exchange_shut config n mid new between failures_after before t w stays same a honest shut h =
@@ -164,7 +164,7 @@ module _ {A : Type 0} (condition : A → Condition) where
       }
 
   -- what the hub answered is what the machine answers
-  pub talks_exchange : (may_commit : A → Bool) (shown : Outflow → Type 0) (n : ℕ) (old new : Hub A) (first last : Outflow) (turns : List Turn) → Settles (store_of condition old)
+  pub talks_exchange : (may_commit : A → Bool) (shown : Outflow → Type 0) (n : ℕ) (old new : Hub A) (first last : Outflow) (turns : List ServedPiece) → Settles (store_of condition old)
       → Talks condition may_commit shown n old first turns new last
       → IsHonest condition new → (w : World) → RepresentsAt condition old w → Exchanged old.config n new turns w
   talks_exchange may_commit shown n old new first last turns settles silent honest w at = record {
@@ -201,7 +201,7 @@ module _ {A : Type 0} (condition : A → Condition) where
       }
 
   -- what a stop now leaves goes on from the turns
-  pub talks_stop : (may_commit : A → Bool) (shown : Outflow → Type 0) (n : ℕ) (old new : Hub A) (out last : Outflow) (turns : List Turn) → Settles (store_of condition old)
+  pub talks_stop : (may_commit : A → Bool) (shown : Outflow → Type 0) (n : ℕ) (old new : Hub A) (out last : Outflow) (turns : List ServedPiece) → Settles (store_of condition old)
       → Talks condition may_commit shown n old out turns new last
       → IsHonest condition new → (first : State) (records : List Record) (w : World) → Run old.config first records w → RepresentsAt condition old w
       → Leaves (store_of condition new) (λ found. Run old.config first ((records ++ map (record_of n) turns) ++ stopped ∷ []) (first_world found))

@@ -5,18 +5,18 @@ use Rattle.dep_exchange.specs.Shut.{LeavesNoMore, IfShut, SendsFixed}
 use Rattle.dep_hub.specs.Representing.{IsClean, store_of}
 use Rattle.dep_hub.specs.declared.hub.Hub.{Hub}
 use Rattle.dep_exchange.proofs.ShutLemmas.{leaves_same, leaves_both}
-use Rattle.dep_connection.specs.Turns.{Turn}
+use Rattle.dep_connection.specs.Turns.{ServedPiece}
 use Rattle.dep_connection.specs.Conversation.{Outflow, AreFixed, Talks, silent, turn, ahead}
 
-fixed_more : (turns : List Turn) (t : Turn) → AreFixed turns → SendsFixed t.sent t.answer → AreFixed (turns ++ t ∷ [])
+fixed_more : (turns : List ServedPiece) (t : ServedPiece) → AreFixed turns → SendsFixed t.sent t.answer → AreFixed (turns ++ t ∷ [])
 fixed_more [] t are one = (one, tt)
 fixed_more (u ∷ turns) t are one = (are.0, fixed_more turns t are.1 one)
 
 module _ {A : Type 0} (condition : A → Condition) where
-  abbrev TurnsShut : Hub A → Hub A → List Turn → Type 0
+  abbrev TurnsShut : Hub A → Hub A → List ServedPiece → Type 0
   TurnsShut old new turns = IfShut (store_of condition old) (store_of condition new) (AreFixed turns × LeavesNoMore (store_of condition old) (store_of condition new))
 
-  clean_before : (may_commit : A → Bool) (shown : Outflow → Type 0) (n : ℕ) (old new : Hub A) (before after : Outflow) (turns : List Turn)
+  clean_before : (may_commit : A → Bool) (shown : Outflow → Type 0) (n : ℕ) (old new : Hub A) (before after : Outflow) (turns : List ServedPiece)
       → Talks condition may_commit shown n old before turns new after → IsClean condition new → IsClean condition old
   clean_before may_commit shown n old new before after turns silent clean = clean
   clean_before may_commit shown n old new before after turns (turn {mid = mid} {before = between} {turns = first} t talks stays out same a sends flushed shows) clean =
@@ -24,7 +24,7 @@ module _ {A : Type 0} (condition : A → Condition) where
   clean_before may_commit shown n old new before after turns (ahead {mid = mid} talks stays out a) clean =
       clean_before may_commit shown n old mid before after turns talks (a.store.was_open clean)
 
-  turns_shut : (may_commit : A → Bool) (shown : Outflow → Type 0) (n : ℕ) (old new : Hub A) (before after : Outflow) (turns : List Turn)
+  turns_shut : (may_commit : A → Bool) (shown : Outflow → Type 0) (n : ℕ) (old new : Hub A) (before after : Outflow) (turns : List ServedPiece)
       → Talks condition may_commit shown n old before turns new after → TurnsShut old new turns
   turns_shut may_commit shown n old new before after turns silent disk shut = (tt, leaves_same (store_of condition old))
   turns_shut may_commit shown n old new before after turns (turn {mid = mid} {before = between} {turns = first} t talks stays out same a sends flushed shows) disk shut =
@@ -36,7 +36,7 @@ module _ {A : Type 0} (condition : A → Condition) where
       (so_far.0, leaves_both (store_of condition old) (store_of condition mid) (store_of condition new) so_far.1 (a.store.left disk (λ is_open. shut (clean_before may_commit shown n old mid before after turns talks is_open))))
 
   -- from before the connection was opened until it was closed
-  pub conversation_shut : (may_commit : A → Bool) (shown : Outflow → Type 0) (n : ℕ) (old opened talked new : Hub A) (before after : Outflow) (turns : List Turn)
+  pub conversation_shut : (may_commit : A → Bool) (shown : Outflow → Type 0) (n : ℕ) (old opened talked new : Hub A) (before after : Outflow) (turns : List ServedPiece)
       → opened.store ≡ old.store → new.store ≡ talked.store
       → Talks condition may_commit shown n opened before turns talked after → TurnsShut old new turns
   conversation_shut may_commit shown n old opened talked new before after turns first last talks =

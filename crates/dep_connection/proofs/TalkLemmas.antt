@@ -16,15 +16,15 @@ use Rattle.dep_exchange.proofs.Leaving.{Settles, leaves_wider}
 use Rattle.dep_connection.proofs.ExchangeLemmas.{last_more, arrives_there, exchanges_run, exchanged_along, talks_exchange, talks_stop}
 use Rattle.dep_connection.proofs.ShutTurns.{conversation_shut}
 use Rattle.dep_connection.proofs.TurnLemmas.{goes_same, goes_then}
-use Rattle.dep_connection.specs.Turns.{Turn, pieces_of, replies_of, record_of, records_of, EndsAs, last_answer, HasGoneOut, IsPiece, ArePieces, most_reads, reads_made, reads_after, with_opened, with_closed, Exchanges, none_yet, one_more, LeftByExchanges, IsEndedBy}
-use Rattle.dep_connection.specs.Conversation.{Outflow, Wire, Session, session, Transfers, GivesNothing, Clocks, Converses, IsAnswered, IsUnserved, ConversesOver, next_after, AddsRecords, StopsAll, Talk, OneTurn, OpenTurn, NoTurn, TurnsTo, TalksUntil, Talks, silent, turn, ahead}
+use Rattle.dep_connection.specs.Turns.{ServedPiece, pieces_of, replies_of, record_of, records_of, EndsAs, last_answer, HasGoneOut, IsPiece, ArePieces, most_reads, reads_made, reads_after, with_opened, with_closed, Exchanges, none_yet, one_more, LeftByExchanges, IsEndedBy}
+use Rattle.dep_connection.specs.Conversation.{Outflow, WireState, Session, session, Transfers, GivesNothing, Clocks, Converses, IsAnswered, IsUnserved, ConversesOver, next_after, AddsRecords, StopsAll, Talk, OneTurn, OpenTurn, NoTurn, TurnsTo, TalksUntil, Talks, silent, turn, ahead}
 use Rattle.dep_connection.specs.declared.connection.Served.{Served}
 use Rattle.dep_connection.specs.declared.connection.Served.TheVariants.{Ended, Closed, Unserved, ReadFault, WriteFault, Bound}
 use Rattle.std.specs.Io.KnownBytes.{Appends}
 use Rattle.std.proofs.KnownBytes.{Keeps-refl, Appends-nil, Appends-trans, Consumes-nil, Consumes-trans, Consumes-kept}
 use Rattle.std.proofs.lemmas.Grind.{flat_map-append}
 
-sent_more : (f : Turn → List ℕ) (turns : List Turn) (t : Turn) → flat_map f (turns ++ t ∷ []) ≡ flat_map f turns ++ f t
+sent_more : (f : ServedPiece → List ℕ) (turns : List ServedPiece) (t : ServedPiece) → flat_map f (turns ++ t ∷ []) ≡ flat_map f turns ++ f t
 sent_more f turns t = flat_map-append f turns (t ∷ []) ∙ ap (λ l. flat_map f turns ++ l) (append-nil (f t))
 
 folds_more : {C A : Type 0} (r : C → A → C → Type 0) (a : C) (xs : List A) (b c : C) (x : A) → FoldsTo r a xs b → r b x c → FoldsTo r a (xs ++ x ∷ []) c
@@ -33,21 +33,21 @@ folds_more r a (y ∷ xs) b c x f s = (f.0, f.1, folds_more r f.0 xs b c x f.2 s
 
 -- what each answer of the clock keeps, all of them keep
 pub clocks_keep : {C : Type 0} (ticks : C → ℕ → C → Type 0) (P : C → Type 0) → ((a : C) (m : ℕ) (b : C) → ticks a m b → P a → P b)
-    → (a : C) (turns : List Turn) (b : C) → Clocks ticks a turns b → P a → P b
+    → (a : C) (turns : List ServedPiece) (b : C) → Clocks ticks a turns b → P a → P b
 clocks_keep ticks P keeps a [] b f p = subst P f p
 clocks_keep ticks P keeps a (t ∷ turns) b f p = clocks_keep ticks P keeps f.0 turns b f.2 (keeps a t.moment f.0 f.1 p)
 
-all_more : (turns : List Turn) (t : Turn) → ArePieces turns → IsPiece t → ArePieces (turns ++ t ∷ [])
+all_more : (turns : List ServedPiece) (t : ServedPiece) → ArePieces turns → IsPiece t → ArePieces (turns ++ t ∷ [])
 all_more [] t a p = (p, tt)
 all_more (u ∷ turns) t a p = (a.0, all_more turns t a.1 p)
 
-transfers_both : (a b c : Wire) (xs ys us vs : List ℕ) → Transfers a b xs us → Transfers b c ys vs → Transfers a c (xs ++ ys) (us ++ vs)
+transfers_both : (a b c : WireState) (xs ys us vs : List ℕ) → Transfers a b xs us → Transfers b c ys vs → Transfers a c (xs ++ ys) (us ++ vs)
 transfers_both a b c xs ys us vs t u = record {
   pieces = Consumes-trans a.unread b.unread c.unread xs ys t.pieces u.pieces;
   replies = Appends-trans a.out.taken b.out.taken c.out.taken us vs t.replies u.replies;
 }
 
-rests_transfers : (a b : Wire) → GivesNothing a b → Transfers a b [] []
+rests_transfers : (a b : WireState) → GivesNothing a b → Transfers a b [] []
 rests_transfers a b r = record {
   pieces = Consumes-kept a.unread a.unread b.unread [] (Consumes-nil a.unread) r.pieces;
   replies = subst (λ (o : Outflow). Appends a.out.taken o.taken []) (sym r.out) (Appends-nil a.out.taken);
@@ -55,7 +55,7 @@ rests_transfers a b r = record {
 
 -- ---- what has gone out
 
-pub gone_out : (turns : List Turn) (count : ℕ) (has_failed : Bool) → length turns ≡ count → (count ≡ 0) ⊎ (has_failed ≡ false) → HasGoneOut turns has_failed
+pub gone_out : (turns : List ServedPiece) (count : ℕ) (has_failed : Bool) → length turns ≡ count → (count ≡ 0) ⊎ (has_failed ≡ false) → HasGoneOut turns has_failed
 gone_out [] count has_failed counted going = tt
 gone_out (t ∷ turns) count has_failed counted (inl none) = absurd (omega (arith, counted, none))
 gone_out (t ∷ turns) count has_failed counted (inr going) = going
@@ -63,16 +63,16 @@ gone_out (t ∷ turns) count has_failed counted (inr going) = going
 true_false : ◌≡◌ {A = Bool} true false → ⊥
 true_false e = cc
 
-kept_back : (turns : List Turn) (count : ℕ) (has_failed : Bool) → length turns ≡ count + 1 → has_failed ≡ true → ¬ HasGoneOut turns has_failed
+kept_back : (turns : List ServedPiece) (count : ℕ) (has_failed : Bool) → length turns ≡ count + 1 → has_failed ≡ true → ¬ HasGoneOut turns has_failed
 kept_back [] count has_failed counted failed out = absurd (omega (arith, counted))
 kept_back (t ∷ turns) count has_failed counted failed out = true_false (sym failed ∙ out)
 
 -- of turns with a last one
-out_behind : (before : List Turn) (t : Turn) (has_failed : Bool) → HasGoneOut (before ++ t ∷ []) has_failed → has_failed ≡ false
+out_behind : (before : List ServedPiece) (t : ServedPiece) (has_failed : Bool) → HasGoneOut (before ++ t ∷ []) has_failed → has_failed ≡ false
 out_behind [] t has_failed out = out
 out_behind (u ∷ before) t has_failed out = out
 
-out_where : (before : List Turn) (t : Turn) → HasGoneOut (before ++ t ∷ []) false
+out_where : (before : List ServedPiece) (t : ServedPiece) → HasGoneOut (before ++ t ∷ []) false
 out_where [] t = refl
 out_where (u ∷ before) t = refl
 
@@ -99,7 +99,7 @@ reads_least reads (suc n) = let before = reads_least reads n in omega (arith, be
 few_more : (old new n : ℕ) → new ≡ reads_after old n → n ≤ most_reads → new ≤ old + most_reads
 few_more old new n e few = let least = reads_least old n in omega (arith, e, few, least)
 
-few_made : (unread : Option (List ℕ)) (has_failed : Bool) (turns : List Turn) (served : Served) → EndsAs unread has_failed turns served → reads_made turns served ≤ most_reads
+few_made : (unread : Option (List ℕ)) (has_failed : Bool) (turns : List ServedPiece) (served : Served) → EndsAs unread has_failed turns served → reads_made turns served ≤ most_reads
 few_made unread has_failed turns Ended ends = omega (arith, ends.3)
 few_made unread has_failed turns ReadFault ends = omega (arith, ends.2)
 few_made unread has_failed turns Closed ends = ends.2
@@ -127,16 +127,16 @@ module _ {A : Type 0} (condition : A → Condition) (may_commit : A → Bool) (s
       → OneTurn condition may_commit shown ticks n mid new answer
       → Talk condition may_commit shown ticks n old new (k + 1) answer
   talk_more ticks n old mid new answer k t out o =
-      let u : Turn = record { piece = o.piece; moment = o.moment; sent = o.sent; answer = answer } in
+      let u : ServedPiece = record { piece = o.piece; moment = o.moment; sent = o.sent; answer = answer } in
       record {
         turns = t.turns ++ u ∷ [];
         counted = length-append t.turns (u ∷ []) ∙ ap (λ m. m + 1) t.counted;
         sizes = all_more t.turns u t.sizes (o.some, o.small);
         talks = turn u t.talks t.answered (gone_out t.turns k mid.wire.out.has_failed t.counted out) t.goes.config o.arrives o.transfers.replies o.flushed o.shows;
-        transfers = subst (λ l. Transfers old.wire new.wire l (replies_of (t.turns ++ u ∷ []))) (sym (sent_more (λ (v : Turn). v.piece) t.turns u))
-            (subst (λ l. Transfers old.wire new.wire (pieces_of t.turns ++ o.piece) l) (sym (sent_more (λ (v : Turn). v.sent) t.turns u))
+        transfers = subst (λ l. Transfers old.wire new.wire l (replies_of (t.turns ++ u ∷ []))) (sym (sent_more (λ (v : ServedPiece). v.piece) t.turns u))
+            (subst (λ l. Transfers old.wire new.wire (pieces_of t.turns ++ o.piece) l) (sym (sent_more (λ (v : ServedPiece). v.sent) t.turns u))
             (transfers_both old.wire mid.wire new.wire (pieces_of t.turns) o.piece (replies_of t.turns) o.sent t.transfers o.transfers));
-        moments = folds_more (λ before (v : Turn) after. ticks before v.moment after) old.clock t.turns mid.clock new.clock u t.moments o.ticked;
+        moments = folds_more (λ before (v : ServedPiece) after. ticks before v.moment after) old.clock t.turns mid.clock new.clock u t.moments o.ticked;
         answered = last_more t.turns u;
         goes = goes_then condition t.goes o.goes;
       }
@@ -236,7 +236,7 @@ module _ {A : Type 0} (condition : A → Condition) (may_commit : A → Bool) (s
 -- ---- the machine's side
 
 -- a connection is opened, its turns are answered, and it is closed
-pub conversation_run : (config : Config) (n : ℕ) (first : State) (records : List Record) (w v : World) (turns : List Turn)
+pub conversation_run : (config : Config) (n : ℕ) (first : State) (records : List Record) (w v : World) (turns : List ServedPiece)
     → Run config first records w → Exchanges config n (with_opened n w) turns v
     → Run config first (records ++ records_of n turns) (with_closed n v)
 conversation_run config n first records w v turns r x =
@@ -248,35 +248,35 @@ conversation_run config n first records w v turns r x =
     (goes_on (exchanges_run config n first (records ++ c ∷ []) (with_opened n w) v turns (goes_on r connects) x) closes)
 
 -- a turn that did not leave the connection open is the last
-OpenBefore : List Turn → Type 0
+OpenBefore : List ServedPiece → Type 0
 OpenBefore [] = Unit {0}
 OpenBefore (t ∷ []) = Unit {0}
 OpenBefore (t ∷ u ∷ turns) = (t.answer ≡ StaysOpen) × OpenBefore (u ∷ turns)
 
-open_more : (turns : List Turn) (t : Turn) → OpenBefore turns → last_answer turns ≡ StaysOpen → OpenBefore (turns ++ t ∷ [])
+open_more : (turns : List ServedPiece) (t : ServedPiece) → OpenBefore turns → last_answer turns ≡ StaysOpen → OpenBefore (turns ++ t ∷ [])
 unfolding OpenBefore
 open_more [] t o e = tt
 open_more (u ∷ []) t o e = (e, tt)
 open_more (u ∷ v ∷ turns) t o e = (o.0, open_more (v ∷ turns) t o.1 e)
 
-open_before : (config : Config) (n : ℕ) (w v : World) (turns : List Turn) → Exchanges config n w turns v → OpenBefore turns
+open_before : (config : Config) (n : ℕ) (w v : World) (turns : List ServedPiece) → Exchanges config n w turns v → OpenBefore turns
 unfolding OpenBefore
 open_before config n w v turns none_yet = tt
 open_before config n w v turns (one_more {turns = before} {w = mid} t x stays a) = open_more before t (open_before config n w mid before x) stays
 
-open_behind : (before : List Turn) (t : Turn) (behind : List Turn) → OpenBefore (before ++ t ∷ behind) → OpenBefore (t ∷ behind)
+open_behind : (before : List ServedPiece) (t : ServedPiece) (behind : List ServedPiece) → OpenBefore (before ++ t ∷ behind) → OpenBefore (t ∷ behind)
 unfolding OpenBefore
 open_behind [] t behind o = o
 open_behind (u ∷ []) t behind o = o.1
 open_behind (u ∷ v ∷ before) t behind o = open_behind (v ∷ before) t behind o.1
 
-last_behind : (before : List Turn) (t : Turn) (behind : List Turn) → last_answer (before ++ t ∷ behind) ≡ last_answer (t ∷ behind)
+last_behind : (before : List ServedPiece) (t : ServedPiece) (behind : List ServedPiece) → last_answer (before ++ t ∷ behind) ≡ last_answer (t ∷ behind)
 last_behind [] t behind = refl
 last_behind (u ∷ []) t behind = refl
 last_behind (u ∷ v ∷ before) t behind = last_behind (v ∷ before) t behind
 
 -- no connection that is there is told of as one that isn't
-never_lost : (config : Config) (n : ℕ) (w v : World) (turns : List Turn) → Exchanges config n w turns v → last_answer turns ≡ NoSuch → ⊥
+never_lost : (config : Config) (n : ℕ) (w v : World) (turns : List ServedPiece) → Exchanges config n w turns v → last_answer turns ≡ NoSuch → ⊥
 never_lost config n w v turns none_yet e = cc
 never_lost config n w v turns (one_more {turns = before} t x stays a) e = arrives_there a (sym (last_more before t) ∙ e)
 
@@ -287,14 +287,14 @@ ended_failed HasClosed there = (refl, refl)
 ended_failed Cut there = (refl, refl)
 ended_failed NoSuch there = absurd (there refl)
 
-ended_out : (before : List Turn) (t : Turn) (has_failed : Bool) (a : Arrived) → (a ≡ NoSuch → ⊥) → ¬ HasGoneOut (before ++ t ∷ []) has_failed → IsEndedBy a has_failed [] WriteFault
+ended_out : (before : List ServedPiece) (t : ServedPiece) (has_failed : Bool) (a : Arrived) → (a ≡ NoSuch → ⊥) → ¬ HasGoneOut (before ++ t ∷ []) has_failed → IsEndedBy a has_failed [] WriteFault
 ended_out before t true a there out = ended_failed a there
 ended_out before t false a there out = absurd (out (out_where before t))
 
 still_open : (has_failed : Bool) (end : Served) → has_failed ≡ false → IsEndedBy StaysOpen has_failed [] end
 still_open has_failed end going = λ failed last. absurd (true_false (sym failed ∙ going))
 
-ended_by : (unread : Option (List ℕ)) (has_failed : Bool) (before : List Turn) (t : Turn) (a : Arrived) (end : Served)
+ended_by : (unread : Option (List ℕ)) (has_failed : Bool) (before : List ServedPiece) (t : ServedPiece) (a : Arrived) (end : Served)
     → last_answer (before ++ t ∷ []) ≡ a → (a ≡ NoSuch → ⊥) → EndsAs unread has_failed (before ++ t ∷ []) end → IsEndedBy a has_failed [] end
 ended_by unread has_failed before t a Ended e there ends =
     subst (λ b. IsEndedBy b has_failed [] Ended) (sym ends.1 ∙ e) (still_open has_failed Ended (out_behind before t has_failed ends.2))
@@ -311,10 +311,10 @@ ended_by unread has_failed before t a Bound e there ends =
     subst (λ b. IsEndedBy b has_failed [] Bound) (sym ends.0 ∙ e) (still_open has_failed Bound (out_behind before t has_failed ends.1))
 ended_by unread has_failed before t a Unserved e there ends = absurd ends
 
-not_last : (u : Turn) (behind : List Turn) → u ∷ behind ≡ [] → ⊥
+not_last : (u : ServedPiece) (behind : List ServedPiece) → u ∷ behind ≡ [] → ⊥
 not_last u behind e = cc
 
-ended_at : (unread : Option (List ℕ)) (has_failed : Bool) (before : List Turn) (t : Turn) (behind : List Turn) (end : Served)
+ended_at : (unread : Option (List ℕ)) (has_failed : Bool) (before : List ServedPiece) (t : ServedPiece) (behind : List ServedPiece) (end : Served)
     → OpenBefore (t ∷ behind) → (last_answer (before ++ t ∷ behind) ≡ NoSuch → ⊥) → EndsAs unread has_failed (before ++ t ∷ behind) end → IsEndedBy t.answer has_failed behind end
 unfolding OpenBefore
 ended_at unread has_failed before t [] end o there ends =
@@ -322,7 +322,7 @@ ended_at unread has_failed before t [] end o there ends =
 ended_at unread has_failed before t (u ∷ behind) end o there ends =
     subst (λ b. IsEndedBy b has_failed (u ∷ behind) end) (sym o.0) (λ failed last. absurd (not_last u behind last))
 
-pub last_reports : (config : Config) (n : ℕ) (w v : World) (before behind : List Turn) (t : Turn) (unread : Option (List ℕ)) (has_failed : Bool) (end : Served)
+pub last_reports : (config : Config) (n : ℕ) (w v : World) (before behind : List ServedPiece) (t : ServedPiece) (unread : Option (List ℕ)) (has_failed : Bool) (end : Served)
     → Exchanges config n w (before ++ t ∷ behind) v → EndsAs unread has_failed (before ++ t ∷ behind) end → IsEndedBy t.answer has_failed behind end
 last_reports config n w v before behind t unread has_failed end x ends =
     ended_at unread has_failed before t behind end (open_behind before t behind (open_before config n w v (before ++ t ∷ behind) x))
@@ -337,7 +337,7 @@ closed_is : {config : Config} {w : World} {n : ℕ} {v : World} {sent : List ℕ
 closed_is closes = refl
 
 module _ {A : Type 0} (condition : A → Condition) where
-  module _ (may_commit : A → Bool) (shown : Outflow → Type 0) (n : ℕ) (old opened talked new : Hub A) (out out_after : Outflow) (turns : List Turn)
+  module _ (may_commit : A → Bool) (shown : Outflow → Type 0) (n : ℕ) (old opened talked new : Hub A) (out out_after : Outflow) (turns : List ServedPiece)
       (opens : Transition condition old opened (Connect n) []) (closes : Transition condition talked new (Close n) []) (settles : Settles (store_of condition opened))
       (same_opened : opened.config ≡ old.config) (same_new : new.config ≡ old.config) (same_store : new.store ≡ talked.store) (talks : Talks condition may_commit shown n opened out turns talked out_after) where
     to_talked : (P : Condition → Type 0) → P (store_of condition new) → P (store_of condition talked)
@@ -382,7 +382,7 @@ module _ {A : Type 0} (condition : A → Condition) where
         (subst (λ (x : Config). Run x first (((records ++ c ∷ []) ++ map (record_of n) turns) ++ stopped ∷ []) (first_world found)) same_opened r))
         (talks_stop condition may_commit shown n opened talked out out_after turns settles talks (to_talked HasCleanDisk honest) first (records ++ c ∷ []) o.0 from o.2))
 
-  module _ (may_commit : A → Bool) (shown : Outflow → Type 0) {C : Type 0} (ticks : C → ℕ → C → Type 0) (n : ℕ) (old : Session A C) (opened talked new : Hub A) (wire : Wire) (now : C)
+  module _ (may_commit : A → Bool) (shown : Outflow → Type 0) {C : Type 0} (ticks : C → ℕ → C → Type 0) (n : ℕ) (old : Session A C) (opened talked new : Hub A) (wire : WireState) (now : C)
       (is_next : n ≡ old.hub.next) (fresh : intake_of old.hub.connections.items n ≡ None)
       (opens : Transition condition old.hub opened (Connect n) []) (closes : Transition condition talked new (Close n) []) (settles : Settles (store_of condition opened)) (law : IsClean condition new → IsHonest condition new)
       (same_opened : opened.config ≡ old.hub.config) (same_new : new.config ≡ old.hub.config) (same_store : new.store ≡ talked.store) (same_first : opened.store ≡ old.hub.store)
@@ -425,7 +425,7 @@ module _ {A : Type 0} (condition : A → Condition) where
     serves_whole Unserved t = absurd t.ends
 
   -- not opened
-  pub unserved : {C : Type 0} (clock : C) (old new : Hub A) (wire : Wire) → ((w : World) → RepresentsAt condition old w → RepresentsAt condition new w) → new.store ≡ old.store
+  pub unserved : {C : Type 0} (clock : C) (old new : Hub A) (wire : WireState) → ((w : World) → RepresentsAt condition old w → RepresentsAt condition new w) → new.store ≡ old.store
       → ((w : World) → RepresentsAt condition old w → Leaves (store_of condition new) (λ found. found ≡ w.state))
       → ((first : State) (records : List Record) → RepresentsAfter condition old first records → RepresentsAfter condition new first records)
       → IsUnserved condition (session old wire clock) (session new wire clock)
@@ -441,7 +441,7 @@ module _ {A : Type 0} (condition : A → Condition) where
   -- ---- over an outlet of which less is said
 
   module _ (may_commit : A → Bool) (shown wider : Outflow → Type 0) (shows : (out : Outflow) → shown out → wider out) where
-    talks_wider : {n : ℕ} {old new : Hub A} {first last : Outflow} {turns : List Turn} → Talks condition may_commit shown n old first turns new last → Talks condition may_commit wider n old first turns new last
+    talks_wider : {n : ℕ} {old new : Hub A} {first last : Outflow} {turns : List ServedPiece} → Talks condition may_commit shown n old first turns new last → Talks condition may_commit wider n old first turns new last
     talks_wider silent = silent
     talks_wider (turn {after = after} t talks stays out same a sends flushed its) = turn t (talks_wider talks) stays out same a sends flushed (shows after its)
     talks_wider (ahead talks stays out a) = ahead (talks_wider talks) stays out a

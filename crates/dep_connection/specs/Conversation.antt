@@ -12,7 +12,7 @@ use Rattle.dep_types.specs.declared.outlet.Outlet as outlet
 use Rattle.dep_exchange.specs.Records.{World, Connect, Close, Record, stopped, Run, first_world}
 use Rattle.dep_hub.specs.Numbers.{most_read}
 use Rattle.dep_hub.specs.Representing.{RepresentsAt, RepresentsAfter, IsClean, IsHonest, Transition, IsArrival, GoesOnAs, intake_of, store_of}
-use Rattle.dep_connection.specs.Turns.{Turn, pieces_of, replies_of, record_of, records_of, most_reads, reads_made, reads_after, HasLastRead, ArePieces, last_answer, HasGoneOut, with_opened, with_closed, Exchanges, LeftByExchanges, EndsAs}
+use Rattle.dep_connection.specs.Turns.{ServedPiece, pieces_of, replies_of, record_of, records_of, most_reads, reads_made, reads_after, HasLastRead, ArePieces, last_answer, HasGoneOut, with_opened, with_closed, Exchanges, LeftByExchanges, EndsAs}
 use Rattle.dep_exchange.specs.Archives.{KeepsEachState, CommitsIfDue}
 use Rattle.dep_exchange.specs.Shut.{LeavesNoMore, IfShut, SendsFixed}
 use Rattle.dep_hub.specs.WorkingAhead.{MakesOneStep}
@@ -33,7 +33,7 @@ pub record Outflow : Type 0 where
 
 -- the bytes that an inlet has left, how many reads it made and how the last one ended; and how the
 -- outlet stands
-pub record Wire : Type 0 where
+pub record WireState : Type 0 where
   pub unread : Option (List ℕ)
   pub reads : ℕ
   pub last : LastRead
@@ -55,30 +55,30 @@ abbrev pub MayShow : {W : Type 0} → (h : outlet.Ghosts W) → (held : W → Li
 MayShow {W} h held has_failed out = (writer : W) × (out ≡ outflow h held has_failed writer)
 
 -- how both ends of a connection stand
-abbrev pub wire : {R : Type 0} → (g : inlet.Ghosts R) → R → Outflow → Wire
+abbrev pub wire : {R : Type 0} → (g : inlet.Ghosts R) → R → Outflow → WireState
 wire g reader out =
     record { unread = g.unread reader; reads = g.reads reader; last = g.last reader; out = out }
 
 -- what was read is these bytes, and these were sent
-pub record Transfers (before after : Wire) (read sent : List ℕ) : Type 0 where
+pub record Transfers (before after : WireState) (read sent : List ℕ) : Type 0 where
   pub pieces : Consumes before.unread after.unread read
   pub replies : Appends before.out.taken after.out.taken sent
 
 -- nothing is read or sent
-pub record Rests (before after : Wire) : Type 0 where
+pub record WireRests (before after : WireState) : Type 0 where
   pub pieces : Keeps before.unread after.unread
   pub reads : after.reads ≡ before.reads
   pub last : after.last ≡ before.last
   pub out : after.out ≡ before.out
 
 -- one read gave no byte, and nothing is sent
-pub record GivesNothing (before after : Wire) : Type 0 where
+pub record GivesNothing (before after : WireState) : Type 0 where
   pub pieces : Keeps before.unread after.unread
   pub reads : after.reads ≡ next_count before.reads
   pub out : after.out ≡ before.out
 
 -- each turn came at the clock's answer
-abbrev pub Clocks : {C : Type 0} → (C → ℕ → C → Type 0) → C → List Turn → C → Type 0
+abbrev pub Clocks : {C : Type 0} → (C → ℕ → C → Type 0) → C → List ServedPiece → C → Type 0
 Clocks ticks clock turns now =
     FoldsTo (λ before t after. ticks before t.moment after) clock turns now
 
@@ -92,18 +92,18 @@ next_after next WriteFault = next + 1
 next_after next Bound = next + 1
 
 -- in each turn the client was sent a fixed reply at most, behind a `100 Continue`
-abbrev pub AreFixed : List Turn → Type 0
+abbrev pub AreFixed : List ServedPiece → Type 0
 AreFixed [] = Unit {0}
 AreFixed (t ∷ turns) = SendsFixed t.sent t.answer × AreFixed turns
 
 -- where the serving of a connection stands: its hub, both ends of the connection, and the clock
 pub record Session (A C : Type 0) : Type 0 where
   pub hub : Hub A
-  pub wire : Wire
+  pub wire : WireState
   pub clock : C
 
 -- the same, by its parts
-abbrev pub session : {A C : Type 0} → Hub A → Wire → C → Session A C
+abbrev pub session : {A C : Type 0} → Hub A → WireState → C → Session A C
 session hub ends clock = record { hub = hub; wire = ends; clock = clock }
 
 -- where it stands over this inlet and this outlet
@@ -155,7 +155,7 @@ module _ {A : Type 0} (condition : A → Condition) where
   -- what the machine makes of the turns, from whatever machine the hub kept: it answers them as
   -- they were answered, and the hub keeps the machine after that, if its store is open; a stop then
   -- leaves just that, and where the store is shut what it may leave after the last turn
-  pub record IsAnswered (old new : Hub A) (number : ℕ) (turns : List Turn)
+  pub record IsAnswered (old new : Hub A) (number : ℕ) (turns : List ServedPiece)
       (w : World) : Type 0 where
     pub talked : World
     pub exchanges : Exchanges old.config number (with_opened number w) turns talked
@@ -171,7 +171,7 @@ module _ {A : Type 0} (condition : A → Condition) where
     pub stays : (w : World) → RepresentsAt condition before.hub w
         → Leaves (store_of condition after.hub) (λ found. found ≡ w.state)
     pub adds : AddsRecords before.hub after.hub []
-    pub rests : Rests before.wire after.wire
+    pub rests : WireRests before.wire after.wire
     pub same_clock : after.clock ≡ before.clock
 
 -- over an outlet that stands, behind each turn, in one of these ways
@@ -180,9 +180,9 @@ module _ {A : Type 0} (condition : A → Condition) (may_commit : A → Bool) (s
   -- it. Behind each the outlet was flushed; no other follows, nor does the store work ahead, where the
   -- outlet has given up.
   pub data Talks (number : ℕ)
-      : Hub A → (first : Outflow) → List Turn → Hub A → (last : Outflow) → Type 0 where
+      : Hub A → (first : Outflow) → List ServedPiece → Hub A → (last : Outflow) → Type 0 where
     silent : {hub : Hub A} {out : Outflow} → Talks number hub out [] hub out
-    turn : {hub mid new : Hub A} {first before after : Outflow} {turns : List Turn} (t : Turn)
+    turn : {hub mid new : Hub A} {first before after : Outflow} {turns : List ServedPiece} (t : ServedPiece)
         → Talks number hub first turns mid before
         → last_answer turns ≡ StaysOpen → HasGoneOut turns before.has_failed
         → mid.config ≡ hub.config
@@ -190,7 +190,7 @@ module _ {A : Type 0} (condition : A → Condition) (may_commit : A → Bool) (s
         t.answer
         → Appends before.taken after.taken t.sent → IsFlushed after.held after.has_failed → shown after
         → Talks number hub first (turns ++ t ∷ []) new after
-    ahead : {hub mid new : Hub A} {first after : Outflow} {turns : List Turn}
+    ahead : {hub mid new : Hub A} {first after : Outflow} {turns : List ServedPiece}
         → Talks number hub first turns mid after
         → last_answer turns ≡ StaysOpen → HasGoneOut turns after.has_failed
         → WorksAhead condition may_commit mid new
@@ -199,7 +199,7 @@ module _ {A : Type 0} (condition : A → Condition) (may_commit : A → Bool) (s
   -- turns so far: what they add, read, write, and when
   pub record Talk {C : Type 0} (ticks : C → ℕ → C → Type 0) (number : ℕ) (before after : Session A C)
       (count : ℕ) (answer : Arrived) : Type 0 where
-    pub turns : List Turn
+    pub turns : List ServedPiece
     pub counted : length turns ≡ count
     pub sizes : ArePieces turns
     pub talks : Talks number before.hub before.wire.out turns after.hub after.wire.out
@@ -274,7 +274,7 @@ module _ {A : Type 0} (condition : A → Condition) (may_commit : A → Bool) (s
   pub record Converses {C : Type 0} (ticks : C → ℕ → C → Type 0) (before after : Session A C)
       (served : Served) : Type 0 where
     pub number : ℕ
-    pub turns : List Turn
+    pub turns : List ServedPiece
     pub is_next : number ≡ before.hub.next
     pub fresh : intake_of before.hub.connections.items number ≡ None
     pub opened : Hub A

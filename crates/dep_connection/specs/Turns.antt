@@ -15,24 +15,24 @@ use Rattle.dep_connection.specs.declared.connection.Served.{Served}
 use Rattle.dep_connection.specs.declared.connection.Served.TheVariants.{Ended, Closed, Unserved, ReadFault, WriteFault, Bound}
 
 -- a piece that was read, when it came, what was sent for it, and what it came to
-pub record Turn : Type 0 where
+pub record ServedPiece : Type 0 where
   pub piece : List ℕ
   pub moment : ℕ
   pub sent : List ℕ
   pub answer : Arrived
 
 -- all that was read, and all that was sent
-abbrev pub pieces_of : List Turn → List ℕ
+abbrev pub pieces_of : List ServedPiece → List ℕ
 pieces_of turns = flat_map (λ t. t.piece) turns
 
-abbrev pub replies_of : List Turn → List ℕ
+abbrev pub replies_of : List ServedPiece → List ℕ
 replies_of turns = flat_map (λ t. t.sent) turns
 
-abbrev pub record_of : ℕ → Turn → Record
+abbrev pub record_of : ℕ → ServedPiece → Record
 record_of number t = record { event = Arrive number t.piece t.moment; sent = t.sent }
 
 -- the records of one connection, from its opening to its close
-abbrev pub records_of : ℕ → List Turn → List Record
+abbrev pub records_of : ℕ → List ServedPiece → List Record
 records_of number turns =
     record { event = Connect number; sent = [] } ∷ map (record_of number) turns
     ++ record { event = Close number; sent = [] } ∷ []
@@ -41,15 +41,15 @@ records_of number turns =
 abbrev pub most_reads : ℕ
 most_reads = 1048576
 
-abbrev pub IsPiece : Turn → Type 0
+abbrev pub IsPiece : ServedPiece → Type 0
 IsPiece t = (0 < length t.piece) × (length t.piece ≤ most_read)
 
-abbrev pub ArePieces : List Turn → Type 0
+abbrev pub ArePieces : List ServedPiece → Type 0
 ArePieces [] = Unit {0}
 ArePieces (t ∷ turns) = IsPiece t × ArePieces turns
 
 -- the answer to the last piece, or that there was none
-abbrev pub last_answer : List Turn → Arrived
+abbrev pub last_answer : List ServedPiece → Arrived
 last_answer [] = StaysOpen
 last_answer (t ∷ []) = t.answer
 last_answer (t ∷ u ∷ turns) = last_answer (u ∷ turns)
@@ -64,9 +64,9 @@ with_closed number w = record w { line = with_line number Absent w.line }
 
 -- the machine answers the turns one after another, each from where the one before left it; a turn
 -- that did not leave the connection open is the last
-pub data Exchanges (config : Config) (number : ℕ) (first : World) : List Turn → World → Type 0 where
+pub data Exchanges (config : Config) (number : ℕ) (first : World) : List ServedPiece → World → Type 0 where
   none_yet : Exchanges config number first [] first
-  one_more : {turns : List Turn} {w : World} {left : State} {line : Line} (t : Turn)
+  one_more : {turns : List ServedPiece} {w : World} {left : State} {line : Line} (t : ServedPiece)
       → Exchanges config number first turns w → last_answer turns ≡ StaysOpen
       → Arrives config t.piece t.moment (w.line number) w.state t.sent left line t.answer
       → Exchanges config number first (turns ++ t ∷ [])
@@ -74,18 +74,18 @@ pub data Exchanges (config : Config) (number : ℕ) (first : World) : List Turn 
 
 -- what a stop may leave at the end of the turns: what it may leave at the end of the last, or the
 -- first world's state where there is none
-abbrev pub LeftByExchanges : {config : Config} {number : ℕ} {first w : World} {turns : List Turn}
+abbrev pub LeftByExchanges : {config : Config} {number : ℕ} {first w : World} {turns : List ServedPiece}
     → Exchanges config number first turns w → State → Type 0
 LeftByExchanges {first = first} none_yet found = found ≡ first.state
 LeftByExchanges (one_more t exchanges stays arrives) found = LeftByArrival arrives found
 
 -- what was sent for these turns, if there are any, has gone out: their outlet hasn't given up
-abbrev pub HasGoneOut : List Turn → (has_failed : Bool) → Type 0
+abbrev pub HasGoneOut : List ServedPiece → (has_failed : Bool) → Type 0
 HasGoneOut [] has_failed = Unit {0}
 HasGoneOut (t ∷ turns) has_failed = has_failed ≡ false
 
 -- why a connection was served no longer, where this was left unread, and its outlet has given up or not
-abbrev pub EndsAs : (left : Option (List ℕ)) → (has_failed : Bool) → List Turn → Served → Type 0
+abbrev pub EndsAs : (left : Option (List ℕ)) → (has_failed : Bool) → List ServedPiece → Served → Type 0
 EndsAs left has_failed turns Ended = IsAtEnd left × (last_answer turns ≡ StaysOpen)
     × HasGoneOut turns has_failed × (length turns < most_reads)
 EndsAs left has_failed turns Closed = (last_answer turns ≡ HasClosed)
@@ -99,7 +99,7 @@ EndsAs left has_failed turns Bound = (last_answer turns ≡ StaysOpen)
 EndsAs left has_failed turns Unserved = ⊥
 
 -- how many reads were made: one for each turn, and one that gave nothing or failed
-abbrev pub reads_made : List Turn → Served → ℕ
+abbrev pub reads_made : List ServedPiece → Served → ℕ
 reads_made turns Ended = length turns + 1
 reads_made turns ReadFault = length turns + 1
 reads_made turns Closed = length turns
@@ -123,7 +123,7 @@ HasLastRead last Unserved = ⊥
 
 -- what the answer to a turn says of the turns behind it, and of why the connection was served no
 -- longer, where its outlet has given up or not
-abbrev pub IsEndedBy : Arrived → (has_failed : Bool) → List Turn → (end : Served) → Type 0
+abbrev pub IsEndedBy : Arrived → (has_failed : Bool) → List ServedPiece → (end : Served) → Type 0
 IsEndedBy StaysOpen has_failed behind end = has_failed ≡ true → behind ≡ [] → end ≡ WriteFault
 IsEndedBy HasClosed has_failed behind end =
     (behind ≡ []) × (end ≡ (if has_failed then WriteFault else Closed))

@@ -20,7 +20,7 @@ use Rattle.dep_decisions.specs.declared.decision.Decision.TheVariants.{Show, Cre
 use Rattle.dep_decisions.specs.declared.operation.Operation.{Operation}
 
 -- what was read of the content is there where it is needed, and is of this content
-pub record IsRead (op : Operation) (read : ReadContent) : Type 0 where
+pub record IsContentRead (op : Operation) (read : ReadContent) : Type 0 where
   pub metadata : content_kind op ≡ Some of.Metadata → read.metadata ≡ metadata_read op.content
   pub digests : IfSome read.digests (λ d. d ≡ digests_of op.content)
 

@@ -27,7 +27,7 @@ pub record Entry (U : Type 0) : Type 0 where
   pub timed_out : Bool
 
 -- what is known of an upload that is there
-pub record Known (U : Type 0) : Type 0 where
+pub record KnownUpload (U : Type 0) : Type 0 where
   pub size : U → ℕ
   pub count : U → ℕ
   pub segment_length : U → (segment : ℕ) → ℕ
@@ -45,7 +45,7 @@ pub record LookUps (U : Type 0) : Type 0 where
   pub timed_out : ℕ → Bool
   pub references : Config → Operation → Option (List Reference)
   pub entries : List Reference → List (Entry U)
-  pub known : Known U
+  pub known : KnownUpload U
   pub repeats : U → (segment : ℕ) → (bytes : List ℕ) → Option Bool
 
 -- ---- a state
@@ -86,7 +86,7 @@ entry_at s r u = record {
   timed_out = set.contains s.timed_out u;
 }
 
-abbrev pub known_of : Known state.Upload
+abbrev pub known_of : KnownUpload state.Upload
 known_of = record {
   size = λ u. u.size;
   count = λ u. u.count;

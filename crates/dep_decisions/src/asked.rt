@@ -2,14 +2,14 @@
 ghost use Rattle.std.specs.Prelude.{◌≡◌, IfOk, IfSome, Some, option_map, unwrap_or};
 ghost use Rattle.std.specs.Option.{option_copied};
 ghost use Rattle.dep_fixity.specs.Fixity.{digests_of};
-ghost use Rattle.dep_decisions.specs.Asked.{IsRead, deposited_in, dropped_at, filed_at, received_in, referred_at, undeposited_in};
+ghost use Rattle.dep_decisions.specs.Asked.{IsContentRead, deposited_in, dropped_at, filed_at, received_in, referred_at, undeposited_in};
 ghost use Rattle.dep_decisions.specs.Decisions.{assembled_file, behalf_of, decision_with, ingests, posted_file, referred_files};
 ghost use Rattle.dep_decisions.specs.Kinds.{content_kind};
 ghost use Rattle.dep_decisions.specs.Purposes.{kind_for};
 ghost use Rattle.dep_decisions.specs.declared.decision.Decision.TheVariants.{Show};
 ghost use Rattle.dep_decisions.specs.declared.decision.Deposit.TheVariants.{Files, Metadata as MetadataOf};
 
-use crate::decision::{Decision, Deposit, NewFile, ContentSource};
+use crate::decision::{ContentSource, Decision, Deposit, NewFile};
 use crate::operation::Operation;
 use crate::purpose::{Purpose, is_completion, is_true};
 use dep_docs_in::{DEFAULT_MEDIA, Pointed, Reference};
@@ -38,7 +38,7 @@ pub fn decision_on(
     read: ReadContent,
 ) -> Result<Decision, AllocError>
     requires purpose { option_map kind_for purpose ≡ content_kind operation.now }
-    requires read { IsRead operation.now read }
+    requires read { IsContentRead operation.now read }
     ensures { IfOk result (λ d. d ≡ decision_with (option_copied references.entry) operation.now) }
 {
     match purpose {
@@ -59,7 +59,7 @@ fn decision_for(
     read: ReadContent,
 ) -> Result<Decision, AllocError>
     requires purpose { Some (kind_for purpose) ≡ content_kind operation.now }
-    requires read { IsRead operation.now read }
+    requires read { IsContentRead operation.now read }
     ensures { IfOk result (λ d. d ≡ decision_with (option_copied references.entry) operation.now) }
 {
     match purpose {

@@ -12,7 +12,7 @@ mod purpose;
 
 pub use asked::{ReadContent, decision_on};
 pub use content_rules::{digest_rule, digests_if_promised, fields_rule, is_binary};
-pub use decision::{Decision, Deposit, NewFile, ContentSource};
+pub use decision::{ContentSource, Decision, Deposit, NewFile};
 pub use numbers::numbers_for;
 pub use operation::Operation;
 pub use purpose::{Purpose, content_purpose, is_completion};

@@ -10,7 +10,7 @@ use Rattle.dep_types.specs.declared.rows.FileRow.{FileRow}
 use Rattle.dep_types.specs.declared.rows.ObjectView.{ObjectView}
 use Rattle.dep_docs_out.specs.Documents.{file_url, status_data, status_document, object_members, links_data, state_members, actions_data, part_data, states_data, link_data, deposit_members, behalf_members, kept_members, relations_data}
 use Rattle.dep_docs_out.specs.Json.{sorted_object, items}
-use Rattle.dep_docs_out.specs.ReadBack.{text_at, ReportsFile, ReportsFiles, ReportsObject}
+use Rattle.dep_docs_out.specs.ReadBack.{text_at, DocumentsFile, ReportsFiles, DocumentsObject}
 use Rattle.dep_docs_out.proofs.ReadingBack.{is_plain, read_back}
 use Rattle.dep_docs_out.proofs.LinksReadBack.{links_plain}
 
@@ -21,7 +21,7 @@ status_plain config view = rw (links_plain config view.object.object view.files)
 abbrev link_of : Config → ℕ → FileRow → Option (List ℕ) → Data
 link_of config n file behalf = sorted_object (deposit_members config (file_url config n file.file) file ++ behalf_members behalf ++ kept_members file)
 
-link_reports : (config : Config) (n : ℕ) (file : FileRow) → ReportsFile config n file (link_data config n file)
+link_reports : (config : Config) (n : ℕ) (file : FileRow) → DocumentsFile config n file (link_data config n file)
 unfolding link_data deposit_members kept_members relations_data serde_json_on_literals
 link_reports config n file =
     let behalf = file.behalf in
@@ -37,7 +37,7 @@ links_report : (config : Config) (n : ℕ) (files : List FileRow) → ReportsFil
 links_report config n [] = tt
 links_report config n (file ∷ files) = (link_reports config n file, links_report config n files)
 
-status_reports : (config : Config) (view : ObjectView) → ReportsObject config view (status_data config view)
+status_reports : (config : Config) (view : ObjectView) → DocumentsObject config view (status_data config view)
 unfolding status_data object_members links_data state_members actions_data part_data states_data serde_json_on_literals
 status_reports config view = record {
   place = refl;
@@ -52,7 +52,7 @@ status_reports config view = record {
 same : (d e : Data) → Some d ≡ Some e → d ≡ e
 same d e h = cc h
 
-pub reports : (config : Config) (view : ObjectView) (d : Data) → read (status_document config view) ≡ Some d → ReportsObject config view d
+pub reports : (config : Config) (view : ObjectView) (d : Data) → read (status_document config view) ≡ Some d → DocumentsObject config view d
 reports config view d h =
     let back = read_back (status_data config view) 4 (omega arith) (status_plain config view) in
-    subst (ReportsObject config view) (same (status_data config view) d (sym back ∙ h)) (status_reports config view)
+    subst (DocumentsObject config view) (same (status_data config view) d (sym back ∙ h)) (status_reports config view)

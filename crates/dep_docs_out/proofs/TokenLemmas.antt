@@ -6,7 +6,7 @@ use Rattle.json.specs.Tree.{items_tokens, members_tokens}
 use Rattle.serde_json.specs.Data.{Data}
 use Rattle.serde_json.specs.Written.{compact_text, items_outline, members_outline}
 use Rattle.serde_json.proofs.Texts.{print-outline}
-use Rattle.dep_docs_out.specs.Json.{Draft, Adds, AddsItems, AddsMembers, nothing, sorted_object, list, items, members_from, value_tokens, member_tokens, item_tokens}
+use Rattle.dep_docs_out.specs.Json.{Draft, AddsTokens, AddsItems, AddsMembers, nothing, sorted_object, list, items, members_from, value_tokens, member_tokens, item_tokens}
 
 infixl 10 ◌⨾◌
 member_tokens-append : (a b : List (List ℕ × Data)) → member_tokens (a ++ b) ≡ member_tokens a ++ member_tokens b
@@ -28,7 +28,7 @@ items_closed [] = refl
 items_closed (d ∷ ds) = ap (λ ts. value_tokens d ++ ts) (items_closed ds) ∙ sym (append_assoc (value_tokens d) (item_tokens ds) (Token.end_array ∷ []))
 
 -- what was written after what
-then : {old between new : Draft} {first second : List Token} → Adds old between first → Adds between new second → Adds old new (first ++ second)
+then : {old between new : Draft} {first second : List Token} → AddsTokens old between first → AddsTokens between new second → AddsTokens old new (first ++ second)
 then {old} {between} {new} {first} {second} g h = record {
   is = λ fine.
       let late = h.is fine in
@@ -36,8 +36,8 @@ then {old} {between} {new} {first} {second} g h = record {
       (early.0, late.1 ∙ ap (λ ts. ts ++ second) early.1 ∙ append_assoc old.tokens first second);
 }
 
-reported_as : {old new : Draft} {first second : List Token} → first ≡ second → Adds old new first → Adds old new second
-reported_as {old} {new} {first} {second} e g = subst (λ (ts : List Token). Adds old new ts) e g
+reported_as : {old new : Draft} {first second : List Token} → first ≡ second → AddsTokens old new first → AddsTokens old new second
+reported_as {old} {new} {first} {second} e g = subst (λ (ts : List Token). AddsTokens old new ts) e g
 
 -- members written after members
 pub ◌⨾◌ : {old between new : Draft} {a b : List (List ℕ × Data)} → AddsMembers old between a → AddsMembers between new b → AddsMembers old new (a ++ b)
@@ -55,43 +55,43 @@ more_items {old} {between} {new} {a} {b} g h = record { is = reported_as (sym (i
 
 -- an object, between its braces
 object_between : {old opened between new : Draft} {ms : List (List ℕ × Data)}
-    → Adds old opened (Token.begin_object ∷ []) → AddsMembers opened between ms → Adds between new (Token.end_object ∷ []) → Adds old new (value_tokens (sorted_object ms))
+    → AddsTokens old opened (Token.begin_object ∷ []) → AddsMembers opened between ms → AddsTokens between new (Token.end_object ∷ []) → AddsTokens old new (value_tokens (sorted_object ms))
 object_between {old} {opened} {between} {new} {ms} b m e =
-    let all : Adds old new (Token.begin_object ∷ (member_tokens ms ++ Token.end_object ∷ [])) = then (then b m.is) e in
+    let all : AddsTokens old new (Token.begin_object ∷ (member_tokens ms ++ Token.end_object ∷ [])) = then (then b m.is) e in
     reported_as (ap (λ ts. Token.begin_object ∷ ts) (sym (members_closed ms))) all
 
 -- a list, between its brackets
 list_between : {old opened between new : Draft} {ds : List Data}
-    → Adds old opened (Token.begin_array ∷ []) → AddsItems opened between ds → Adds between new (Token.end_array ∷ []) → Adds old new (value_tokens (list ds))
+    → AddsTokens old opened (Token.begin_array ∷ []) → AddsItems opened between ds → AddsTokens between new (Token.end_array ∷ []) → AddsTokens old new (value_tokens (list ds))
 list_between {old} {opened} {between} {new} {ds} b m e =
-    let all : Adds old new (Token.begin_array ∷ (item_tokens ds ++ Token.end_array ∷ [])) = then (then b m.is) e in
+    let all : AddsTokens old new (Token.begin_array ∷ (item_tokens ds ++ Token.end_array ∷ [])) = then (then b m.is) e in
     reported_as (ap (λ ts. Token.begin_array ∷ ts) (sym (items_closed ds))) all
 
 -- a member, by its name and its value
-pub named : {old opened new : Draft} {name : List ℕ} {d : Data} → Adds old opened (Token.key name ∷ []) → Adds opened new (value_tokens d) → AddsMembers old new ((name, d) ∷ [])
+pub named : {old opened new : Draft} {name : List ℕ} {d : Data} → AddsTokens old opened (Token.key name ∷ []) → AddsTokens opened new (value_tokens d) → AddsMembers old new ((name, d) ∷ [])
 named {old} {opened} {new} {name} {d} k v =
     record { is = reported_as (ap (λ ts. Token.key name ∷ ts) (sym (append-nil (value_tokens d)))) (then k v) }
 
 -- a member that is an object
-pub object_member : {old named_at opened between new : Draft} {name : List ℕ} {ms : List (List ℕ × Data)} → Adds old named_at (Token.key name ∷ [])
-    → Adds named_at opened (Token.begin_object ∷ []) → AddsMembers opened between ms → Adds between new (Token.end_object ∷ []) → AddsMembers old new ((name, sorted_object ms) ∷ [])
+pub object_member : {old named_at opened between new : Draft} {name : List ℕ} {ms : List (List ℕ × Data)} → AddsTokens old named_at (Token.key name ∷ [])
+    → AddsTokens named_at opened (Token.begin_object ∷ []) → AddsMembers opened between ms → AddsTokens between new (Token.end_object ∷ []) → AddsMembers old new ((name, sorted_object ms) ∷ [])
 object_member k b m e = named k (object_between b m e)
 
 -- a member that is a list
-pub list_member : {old named_at opened between new : Draft} {name : List ℕ} {ds : List Data} → Adds old named_at (Token.key name ∷ [])
-    → Adds named_at opened (Token.begin_array ∷ []) → AddsItems opened between ds → Adds between new (Token.end_array ∷ []) → AddsMembers old new ((name, list ds) ∷ [])
+pub list_member : {old named_at opened between new : Draft} {name : List ℕ} {ds : List Data} → AddsTokens old named_at (Token.key name ∷ [])
+    → AddsTokens named_at opened (Token.begin_array ∷ []) → AddsItems opened between ds → AddsTokens between new (Token.end_array ∷ []) → AddsMembers old new ((name, list ds) ∷ [])
 list_member k b m e = named k (list_between b m e)
 
 -- an item that is an object
 pub object_item : {old opened between new : Draft} {ms : List (List ℕ × Data)}
-    → Adds old opened (Token.begin_object ∷ []) → AddsMembers opened between ms → Adds between new (Token.end_object ∷ []) → AddsItems old new (sorted_object ms ∷ [])
+    → AddsTokens old opened (Token.begin_object ∷ []) → AddsMembers opened between ms → AddsTokens between new (Token.end_object ∷ []) → AddsItems old new (sorted_object ms ∷ [])
 object_item {old} {opened} {between} {new} {ms} b m e =
     record { is = reported_as (sym (append-nil (value_tokens (sorted_object ms)))) (object_between b m e) }
 
 -- the text of a whole document, of which nothing has failed
 pub whole_text : {opened between : Draft} {ms : List (List ℕ × Data)}
-    → Adds nothing opened (Token.begin_object ∷ []) → AddsMembers opened between ms → between.has_failed ≡ false → print (between.tokens ++ Token.end_object ∷ []) ≡ compact_text (sorted_object ms)
+    → AddsTokens nothing opened (Token.begin_object ∷ []) → AddsMembers opened between ms → between.has_failed ≡ false → print (between.tokens ++ Token.end_object ∷ []) ≡ compact_text (sorted_object ms)
 whole_text {opened} {between} {ms} b m fine =
     let closed : Draft = record { has_failed = false; tokens = between.tokens ++ Token.end_object ∷ [] } in
-    let end : Adds between closed (Token.end_object ∷ []) = record { is = λ _. (fine, refl) } in
+    let end : AddsTokens between closed (Token.end_object ∷ []) = record { is = λ _. (fine, refl) } in
     ap print ((object_between b m end).is refl).1 ∙ print-outline (sorted_object ms)

@@ -66,13 +66,13 @@ abbrev pub nothing : Draft
 nothing = record { has_failed = false; tokens = [] }
 
 -- where nothing has failed, these tokens were written behind the old ones
-pub record Adds (old new : Draft) (added : List Token) : Type 0 where
+pub record AddsTokens (old new : Draft) (added : List Token) : Type 0 where
   pub is : new.has_failed ≡ false
       → (old.has_failed ≡ false) × (new.tokens ≡ old.tokens ++ added)
 
 -- these members of an object were
 pub record AddsMembers (old new : Draft) (ms : List (List ℕ × Data)) : Type 0 where
-  pub is : Adds old new (member_tokens ms)
+  pub is : AddsTokens old new (member_tokens ms)
 
 -- this member of an object was
 abbrev pub AddsMember : (old new : Draft) (name : List ℕ) → Data → Type 0
@@ -80,4 +80,4 @@ AddsMember old new name d = AddsMembers old new ((name, d) ∷ [])
 
 -- these items of a list were
 pub record AddsItems (old new : Draft) (ds : List Data) : Type 0 where
-  pub is : Adds old new (item_tokens ds)
+  pub is : AddsTokens old new (item_tokens ds)

@@ -69,7 +69,7 @@ abbrev pub text_within : (part name : List ℕ) → Data → Option (List ℕ)
 text_within part name d = option_and_then (text_at name) (get part d)
 
 -- of a file: where it is, its media type, its tag, when it was deposited and on whose behalf
-pub record ReportsFile (config : Config) (n : ℕ) (file : FileRow) (d : Data) : Type 0 where
+pub record DocumentsFile (config : Config) (n : ℕ) (file : FileRow) (d : Data) : Type 0 where
   pub place : text_at (codes "@id") d ≡ Some (file_url config n file.file)
   pub media : text_at (codes "contentType") d ≡ Some file.media
   pub tag : text_at (codes "eTag") d ≡ Some (decimal file.tag)
@@ -83,10 +83,10 @@ ReportsFiles config n [] no_items = ⊤
 ReportsFiles config n [] (item d ds) = ⊥
 ReportsFiles config n (file ∷ files) no_items = ⊥
 ReportsFiles config n (file ∷ files) (item d ds) =
-    ReportsFile config n file d × ReportsFiles config n files ds
+    DocumentsFile config n file d × ReportsFiles config n files ds
 
 -- of an object: where it is, its three tags, and its files
-pub record ReportsObject (config : Config) (view : ObjectView) (d : Data) : Type 0 where
+pub record DocumentsObject (config : Config) (view : ObjectView) (d : Data) : Type 0 where
   pub place : text_at (codes "@id") d ≡ Some (object_url config view.object.object)
   pub tag : text_at (codes "eTag") d ≡ Some (decimal view.object.object_tag)
   pub metadata_tag : text_within (codes "metadata") (codes "eTag") d

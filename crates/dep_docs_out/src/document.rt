@@ -7,7 +7,7 @@ ghost use Rattle.serde_json.specs.Data.{boolean};
 ghost use Rattle.dep_moment.specs.Civil.{rfc3339_text};
 ghost use Rattle.dep_docs_out.specs.Made.{MakesText};
 ghost use Rattle.dep_docs_out.specs.Json as spec;
-ghost use Rattle.dep_docs_out.specs.Json.{Adds, AddsItems, AddsMember, nothing};
+ghost use Rattle.dep_docs_out.specs.Json.{AddsTokens, AddsItems, AddsMember, nothing};
 
 use crate::spelled_moment::SpelledMoment;
 use dep_moment::Moment;
@@ -45,7 +45,7 @@ impl Model for Document {
 impl Document {
     /// A document that begins with `{`.
     pub fn begun(alloc: Global) -> Result<Document, AllocError>
-        ensures { IfOk result (λ document. Adds nothing document (begin_object ∷ [])) }
+        ensures { IfOk result (λ document. AddsTokens nothing document (begin_object ∷ [])) }
     {
         let mut document = Document {
             out: Writer::new(Vec::with_capacity(alloc, 1024)?),
@@ -59,7 +59,7 @@ impl Document {
     /// Adds a token.
     pub fn token(&mut self, token: Token<'_>)
         requires { IsPrintable (token_of token) }
-        ensures { Adds self.old self.new (token_of token.entry ∷ []) }
+        ensures { AddsTokens self.old self.new (token_of token.entry ∷ []) }
     {
         self.has_failed |= self.out.token(token).is_err();
     }

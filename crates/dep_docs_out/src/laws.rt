@@ -1,7 +1,7 @@
 //! Whole documents, computed.
 ghost use Rattle.std.specs.Prelude.{◌≡◌, ◌≤◌, ℕ, List, ◌∷◌, [], Some};
 ghost use Rattle.dep_types.specs.Limits.{greatest_moment};
-ghost use Rattle.dep_docs_out.specs.ReadBack.{ReadsAs, IsReadBack, HasTexts, FileHasTexts, HasKeptNames, MetadataHasTexts, HasNumbers, ReportsObject};
+ghost use Rattle.dep_docs_out.specs.ReadBack.{ReadsAs, IsReadBack, HasTexts, FileHasTexts, HasKeptNames, MetadataHasTexts, HasNumbers, DocumentsObject};
 ghost use Rattle.serde_json.specs.Data.{Data};
 ghost use Rattle.serde_json.specs.Read.{read};
 ghost use Rattle.dep_types.specs.Config.{HasLimits};
@@ -54,7 +54,7 @@ pub fn status_document_is_read_back()
 /// Whatever a status document is read as, each number, tag and date in it is that of its row.
 pub fn status_document_reports_its_rows()
     ensures { (config : AConfig) (view : AnObjectView) (d : Data)
-        → read (status_document config view) ≡ Some d → ReportsObject config view d }
+        → read (status_document config view) ≡ Some d → DocumentsObject config view d }
 {}
 
 /// The metadata document is read back as the value that it spells.

@@ -12,7 +12,7 @@ use Rattle.dep_message.specs.Giving.{Takes}
 use Rattle.dep_exchange.specs.Machine.{state_after, answer_at_place, SendsUpTo, out_of_memory}
 use Rattle.dep_exchange.specs.Sending.{Outside, Passes, outside, outside_of}
 use Rattle.dep_exchange.specs.Owing.{Owing}
-use Rattle.dep_exchange.specs.Serving.{KeepsIntake, Arrival, Answers, IsDeadIfShut, Progress, ServesOver, answer_after}
+use Rattle.dep_exchange.specs.Serving.{KeepsIntake, Arrival, Answers, IsDeadIfShut, ServedSoFar, ServesOver, answer_after}
 use Rattle.dep_exchange.specs.Nexts.{Stays, Rests, RunsOut, IsLast, IsDead, Ends, GoesOn, IsWaiting, AnswersNext, TakesNext, arrived_after, ended_as, next_behind, reading_behind}
 use Rattle.dep_exchange.specs.Shut.{EndsFixed, waits, has_ended}
 use Rattle.dep_exchange.specs.declared.rest.Rest.{Rest}
@@ -141,8 +141,8 @@ dead_ends config reading moment old now same shut =
     (ap (λ (r : Reading). r.place) same ∙ shut, inr (inr (record { shut = shut; rests = rests_same old; answer_is = refl })))
 
 -- nothing more was sent
-served_stays : {config : Config} {came : Arrival} {old mid new : Outside} {at : Place} → Progress config came old mid at → Rests mid new
-    → Progress config came old new at
+served_stays : {config : Config} {came : Arrival} {old mid new : Outside} {at : Place} → ServedSoFar config came old mid at → Rests mid new
+    → ServedSoFar config came old new at
 served_stays {config} {came} {old} {mid} {new} {at} v r = record {
   items = v.items;
   sent = v.sent;
@@ -155,10 +155,10 @@ served_stays {config} {came} {old} {mid} {new} {at} v r = record {
   still = λ disk none. v.still (r.stays.passes.honest disk) none;
 }
 
-module _ (config : Config) (came : Arrival) (old mid new : Outside) (reading : Reading) (v : Progress config came old mid reading.place)
+module _ (config : Config) (came : Arrival) (old mid new : Outside) (reading : Reading) (v : ServedSoFar config came old mid reading.place)
     (limit : reading.limit ≡ came.reading.limit) where
   -- an item more is answered
-  pub served_on : {next : Place} → GoesOn config reading came.moment mid new next → Progress config came old new next
+  pub served_on : {next : Place} → GoesOn config reading came.moment mid new next → ServedSoFar config came old new next
   served_on {next} g = served_more g.item v (first_at _ _ _ next g.item limit g.first) g.answers
 
   -- no item is complete any more

@@ -17,7 +17,7 @@ use Rattle.dep_exchange.specs.Machine.{starting_state, step, replies, state_afte
 use Rattle.dep_exchange.specs.Archives.{FailsIfShut, Ticks}
 use Rattle.dep_exchange.specs.Causes.{IsCutInContent}
 use Rattle.dep_exchange.specs.Sending.{IsReplySent, SendsOver, SendsReply, Outside, Passes, SendsStep, fault_reply}
-use Rattle.dep_exchange.specs.Serving.{Arrival, IsDeadIfShut, FailsFrom, IsAnsweredBy, IsFixedSent, IsAnsweredShut, IsStill, ReadsWith, Answers, Progress, ServesFrom, ServesOver, answer_after}
+use Rattle.dep_exchange.specs.Serving.{Arrival, IsDeadIfShut, FailsFrom, IsAnsweredBy, IsFixedSent, IsAnsweredShut, IsStill, ReadsWith, Answers, ServedSoFar, ServesFrom, ServesOver, answer_after}
 use Rattle.dep_exchange.specs.Nexts.{RunsOut}
 use Rattle.dep_exchange.specs.Shut.{LeavesNoMore, IfShut, EndsFixed, has_ended}
 use Rattle.dep_exchange.specs.Shut as fixed
@@ -44,7 +44,7 @@ state_after_more config s [] item moment = refl
 state_after_more config s (x ∷ items) item moment = state_after_more config (step config s x moment).state items item moment
 
 -- nothing is served yet
-pub served_none : (config : Config) (came : Arrival) (at : Outside) → Progress config came at at (place_with came.reading.place came.piece)
+pub served_none : (config : Config) (came : Arrival) (at : Outside) → ServedSoFar config came at at (place_with came.reading.place came.piece)
 served_none config came at = record {
   items = [];
   sent = [];
@@ -80,8 +80,8 @@ fails_still config s (Request m) moment sent CutShort never h = given_up h.1 (se
 
 -- an item more is answered
 pub served_more : {config : Config} {came : Arrival} {old mid new : Outside} {at next : Place} (item : Item)
-    → Progress config came old mid at → FirstAt came.reading.limit at item next
-    → Answers config mid new item came.moment Sent → Progress config came old new next
+    → ServedSoFar config came old mid at → FirstAt came.reading.limit at item next
+    → Answers config mid new item came.moment Sent → ServedSoFar config came old new next
 served_more {config} {came} {old} {mid} {new} {at} {next} item v f a =
     record {
       items = v.items ++ item ∷ [];
@@ -228,7 +228,7 @@ answer_open reading dead lives = by_place reading.place dead
     by_place (Open continued rest) d = refl
     by_place Shut d = absurd (let bad : true ≡ false = sym (d refl) ∙ lives in cc)
 
-module _ (config : Config) (came : Arrival) (old now : Outside) (at : Place) (v : Progress config came old now at) where
+module _ (config : Config) (came : Arrival) (old now : Outside) (at : Place) (v : ServedSoFar config came old now at) where
   -- no item is complete any more
   pub serves_waiting : Settles now.store → (p : Place) → p ≡ at → (answer : Arrived) → (IsDeadIfShut came.reading → answer ≡ answer_at_place at) → answer ≢ Cut → EndsFixed [] answer
       → (came.reading.limit ≡ config.max_upload → Waits config.max_upload at)
@@ -321,7 +321,7 @@ module _ (config : Config) (came : Arrival) (old now : Outside) (at : Place) (v 
   }
 
 -- an item is answered, and it is the last
-module _ (config : Config) (came : Arrival) (old now new : Outside) (at next : Place) (v : Progress config came old now at) (settles : Settles new.store) where
+module _ (config : Config) (came : Arrival) (old now new : Outside) (at next : Place) (v : ServedSoFar config came old now at) (settles : Settles new.store) where
   last : (item : Item) (answer : Answered) → FirstAt came.reading.limit at item next → (answer ≡ Sent → next ≡ Shut)
       → Answers config now new item came.moment answer → ServesOver config came old new Shut (answer_after answer)
   last item Sent f e a =

@@ -11,15 +11,15 @@ use Rattle.dep_exchange.specs.declared.arrived.Arrived.TheVariants.{Closed}
 
 -- what happens to a server: a connection is opened, bytes of one arrive at a moment, one is closed;
 -- or the server stops, which ends every connection
-pub data Event : Type 0 where
-  Connect : (number : ℕ) → Event
-  Arrive : (number : ℕ) (piece : List ℕ) (moment : ℕ) → Event
-  Close : (number : ℕ) → Event
-  Stop : Event
+pub data ServerEvent : Type 0 where
+  Connect : (number : ℕ) → ServerEvent
+  Arrive : (number : ℕ) (piece : List ℕ) (moment : ℕ) → ServerEvent
+  Close : (number : ℕ) → ServerEvent
+  Stop : ServerEvent
 
 -- an event, with the bytes that were sent for it
 pub record Record : Type 0 where
-  pub event : Event
+  pub event : ServerEvent
   pub sent : List ℕ
 
 -- a connection of the machine: not there, with its whole stream, or making no more steps
@@ -79,7 +79,7 @@ MayShut (at_live serves) = EndsGivenUp serves
 MayShut at_shut_line = ⊥
 
 -- what may happen to the machine
-pub data Happens (config : Config) (w : World) : Event → List ℕ → World → Type 0 where
+pub data Happens (config : Config) (w : World) : ServerEvent → List ℕ → World → Type 0 where
   connects : {n : ℕ}
       → Happens config w (Connect n) [] (record w { line = with_line n (Live []) w.line })
   closes : {n : ℕ} → Happens config w (Close n) [] (record w { line = with_line n Absent w.line })
@@ -97,7 +97,7 @@ stopped = record { event = Stop; sent = [] }
 -- the machine may be there after these records, from a state and no connection
 pub data Run (config : Config) (first : State) : List Record → World → Type 0 where
   begins : Run config first [] (first_world first)
-  goes_on : {records : List Record} {event : Event} {sent : List ℕ} {w w' : World}
+  goes_on : {records : List Record} {event : ServerEvent} {sent : List ℕ} {w w' : World}
       → Run config first records w → Happens config w event sent w'
       → Run config first (records ++ record { event = event; sent = sent } ∷ []) w'
   -- it stops between two calls, or at the end of one that left all well

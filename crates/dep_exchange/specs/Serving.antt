@@ -127,7 +127,7 @@ IsStill config items moment sent = (s : State)
     → (state_after config s items moment ≡ s) × (replies config s items moment ≡ sent)
 
 -- how far it was served: these items were read and replied to
-pub record Progress (config : Config) (a : Arrival) (old now : Outside) (at : Place) : Type 0 where
+pub record ServedSoFar (config : Config) (a : Arrival) (old now : Outside) (at : Place) : Type 0 where
   pub items : List Item
   pub sent : List ℕ
   pub reads : ReadsWith a items at

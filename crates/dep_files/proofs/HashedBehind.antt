@@ -8,14 +8,14 @@ use Rattle.dep_types.specs.declared.store_fault.StoreFault.{StoreFault}
 use Rattle.dep_tables.specs.Tables.{Tables, tables_of, IsKnown}
 use Rattle.dep_tables.specs.declared.owner.BlockOwner.{BlockOwner}
 use Rattle.dep_files.specs.Causes.{FailsToGiveBlocks}
-use Rattle.dep_files.specs.Clauses.{ReadsOver}
+use Rattle.dep_files.specs.Clauses.{ReadsOverTables}
 use Rattle.dep_files.specs.Fixity.{AreDigestsOf}
 use Rattle.dep_files.proofs.KnownTables.{blocks_plain}
 use Rattle.dep_files.proofs.Results.{same_tables}
 use Rattle.dep_files.proofs.Stills.{known_still, still_same}
 use Rattle.dep_files.proofs.Streams.{blocks_from}
 
-module _ {S A E B F : Type 0} {g : Ghosts S} {a b c : Held S} {x : A} {r : Result B F} (first : ReadsOver {A = A} {E = E} g a b (Ok x)) (second : ReadsOver g b c r) (o : BlockOwner) where
+module _ {S A E B F : Type 0} {g : Ghosts S} {a b c : Held S} {x : A} {r : Result B F} (first : ReadsOverTables {A = A} {E = E} g a b (Ok x)) (second : ReadsOverTables g b c r) (o : BlockOwner) where
   known_behind : HasCleanDisk (state g c) → IsKnown (state g a) → IsKnown (state g b)
   known_behind clean known = known_still (state g a) (state g b) (still_same (state g a) (state g b) (first.same (second.stays.honest clean))) known
 

@@ -1,7 +1,7 @@
 -- Rows that are read one at a time, by a query that only shows, whose bytes are hashed.
 use Rattle.std.proofs.Common.{◌≡◌, ◌++◌, ◌+◌, ◌-◌, ◌^◌, ◌≤◌, ℕ, refl, length, length-append, ap, ◌∙◌, List, [], ◌∷◌, Option, Some, None, Result, Ok, Err, IfErr, OnErr, inl, subst, sym}
 use Rattle.std.specs.Borrow.{Bor}
-use Rattle.dep_fixity.specs.Fixity.{Holds, digests_of}
+use Rattle.dep_fixity.specs.Fixity.{HashesMessage, digests_of}
 use Rattle.dep_fixity.specs.declared.hasher.Digests.{Digests}
 use Rattle.dep_fixity.specs.declared.hasher.Hasher.{Hasher}
 use Rattle.sqlite.specs.Order.{Row, column}
@@ -14,7 +14,7 @@ use Rattle.sqlite.specs.declared.error.Error.{Error}
 use Rattle.sqlite.specs.declared.rows.stream.Rows.{Rows}
 use Rattle.sqlite_trees.specs.declared.store.Store.{Ghosts}
 use Rattle.dep_files.specs.Sent.{blob_of, joined_blobs}
-use Rattle.dep_files.specs.Clauses.{OnlyReads, OnlyShows, StaysOver, ReportsSeen, ReadsOver, FailsOver, FindsOver}
+use Rattle.dep_files.specs.Clauses.{OnlyReads, OnlyShows, StaysOver, ReportsSeen, ReadsOverTables, FailsOver, FindsOver}
 use Rattle.dep_files.proofs.NextRow.{clean_before, refused_stays, stays_on, unchanged_on}
 use Rattle.dep_files.proofs.SendingLemmas.{begins_from, fails_from, joined_push}
 use Rattle.dep_types.specs.declared.store_fault.StoreFault.{StoreFault}
@@ -36,13 +36,13 @@ use Rattle.dep_files.proofs.ShownFrom.{shown_from}
 -- the hasher holds the rows that were given so far
 abbrev pub Hashed : {S : Type 0} → Ghosts S → List ℕ → Row → State → Held S → ℕ → Hasher → Type 0
 Hashed g sql params first now count hasher =
-    (given : List Row) × HasGiven g sql params now given × IsUnchanged first (state g now) × Holds hasher (joined_blobs given) × (length given ≡ count)
+    (given : List Row) × HasGiven g sql params now given × IsUnchanged first (state g now) × HashesMessage hasher (joined_blobs given) × (length given ≡ count)
 
 -- what the hashing of a query's rows leaves, by what it answers
 pub record EndsHashing {S : Type 0} (g : Ghosts S) (sql : List ℕ) (params : Row) (first new : Held S) (result : Result Digests StoreFault) : Type 0 where
   pub hashes : ReportsSeen (OnlyShows sql) g first new result (HashesShown sql params)
   pub cause : FailsOver (OnlyShows sql) g first new result (FailsToGive sql params None)
-  pub reads : ReadsOver g first new result
+  pub reads : ReadsOverTables g first new result
 
 -- the same of an owner's blocks, over a connection that is given back
 pub owner_hashed : {S : Type 0} {g : Ghosts S} {first now back : Held S} {result : Result Digests StoreFault} (o : BlockOwner)
@@ -76,7 +76,7 @@ module _ {S : Type 0} (g : Ghosts S) (old new : Rows S g) (result : Result (Opti
 
   module _ (sql : List ℕ) (params : Row) (first : State) (count : ℕ) (hasher : Hasher) (was : Hashed g sql params first old.conn.now count hasher) (late : HasCleanDisk (state g new.conn.now)) where
     pub hashed_all : result ≡ Ok None → IsPlain (understood first.now.schema sql) → (digests : Digests)
-        → ((message : List ℕ) → Holds hasher message → digests ≡ digests_of message) → HashesShown sql params first digests
+        → ((message : List ℕ) → HashesMessage hasher message → digests ≡ digests_of message) → HashesShown sql params first digests
     hashed_all is plain digests made =
         let shown = (rw is at (moved.ok late)) sql params was.0 was.1 in record {
           rows = was.0;
@@ -85,12 +85,12 @@ module _ {S : Type 0} (g : Ghosts S) (old new : Rows S g) (result : Result (Opti
         }
 
     pub hashed_more : (row : Bor Row) (after : Hasher) → result ≡ Ok (Some row)
-        → ((message : List ℕ) → Holds hasher message → Holds after (message ++ blob_of row.now)) → Hashed g sql params first new.conn.now (count + 1) after
+        → ((message : List ℕ) → HashesMessage hasher message → HashesMessage after (message ++ blob_of row.now)) → Hashed g sql params first new.conn.now (count + 1) after
     hashed_more row after is more = (
       was.0 ++ row.now ∷ [],
       (rw is at (moved.ok late)) sql params was.0 was.1,
       unchanged first (Some row) is late was.2,
-      subst (Holds after) (sym (joined_push was.0 row.now)) (more (joined_blobs was.0) was.3),
+      subst (HashesMessage after) (sym (joined_push was.0 row.now)) (more (joined_blobs was.0) was.3),
       length-append was.0 (row.now ∷ []) ∙ ap (λ n. n + 1) was.4,
     )
 
@@ -112,7 +112,7 @@ module _ {S : Type 0} (g : Ghosts S) (old new : Rows S g) (result : Result (Opti
     stays = stays_on g old new result moved first before (λ late. (was late).2)
 
     -- all rows were hashed
-    pub ends_whole : result ≡ Ok None → (digests : Digests) → ((message : List ℕ) → Holds hasher message → digests ≡ digests_of message)
+    pub ends_whole : result ≡ Ok None → (digests : Digests) → ((message : List ℕ) → HashesMessage hasher message → digests ≡ digests_of message)
         → EndsHashing g sql params first new.conn.now (Ok digests)
     ends_whole is digests made = record {
       hashes = λ late plain. hashed_all sql params (state g first) count hasher (was (earlier late)) late is plain digests made;

@@ -13,7 +13,7 @@ use Rattle.sqlite.specs.declared.rows.stream.Rows.{Rows}
 use Rattle.sqlite.proofs.Callers.{given_begin}
 use Rattle.sqlite_trees.specs.declared.store.Store.{Ghosts}
 use Rattle.dep_types.specs.Writing.{HasRisen}
-use Rattle.dep_files.specs.Clauses.{OnlyReads, OnlyShows, StaysOver, ReadsOver, LeavesOver, FailsOver, GivesOver}
+use Rattle.dep_files.specs.Clauses.{OnlyReads, OnlyShows, StaysOver, ReadsOverTables, LeavesOver, FailsOver, GivesOver}
 use Rattle.dep_types.specs.declared.store_fault.StoreFault.{StoreFault}
 use Rattle.dep_types.specs.declared.store_fault.StoreFault.TheVariants as store
 use Rattle.dep_tables.specs.Faults.{fault_for}
@@ -43,7 +43,7 @@ use Rattle.dep_files.proofs.SendingLemmas.{all_sent, begins_from, cut_sized, fai
 pub record EndsSending {S : Type 0} (g : Ghosts S) (sql : List ℕ) (params : Row) (first new : Held S) (size : ℕ) (start taken : Option (List ℕ)) (were are : ℕ) (result : Result (Unit {0}) StreamFault) : Type 0 where
   pub streams : GivesOver (OnlyShows sql) g first new start taken (λ s sent. SendsSized sql params s size sent result)
   pub why : FailsOver (OnlyShows sql) g first new result (FailsToSend sql params size)
-  pub reads : ReadsOver g first new result
+  pub reads : ReadsOverTables g first new result
   pub outlet : BlamesOutlet Writer were are result
   pub there : result ≢ Err NoSuchFile
 

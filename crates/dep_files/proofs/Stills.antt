@@ -19,7 +19,7 @@ use Rattle.dep_statements.proofs.Asked.{asks_leave}
 use Rattle.dep_tables.specs.Schema.{our_schema}
 use Rattle.dep_tables.specs.Tables.{tables_in, tables_of, HasTablesOf, IsOurs, HasOurTables, IsKnown}
 use Rattle.dep_tables.proofs.Results.{if_ok, ok_then}
-use Rattle.dep_files.specs.Clauses.{OnlyReads, ReadsOver, ShowsNoWrite, StaysOver}
+use Rattle.dep_files.specs.Clauses.{OnlyReads, ReadsOverTables, ShowsNoWrite, StaysOver}
 use Rattle.dep_files.specs.Reading.{StaysOrRollsBack}
 
 -- ---- one query
@@ -187,11 +187,11 @@ module _ {S : Type 0} {g : Ghosts S} where
 
 -- what those keep up to here that were Ok, with no value
 abbrev pub HasRead : {S : Type 0} (g : Ghosts S) (first now : Held S) → Type 0
-HasRead g first now = ReadsOver {A = ⊤} {E = ⊤} g first now (Ok tt)
+HasRead g first now = ReadsOverTables {A = ⊤} {E = ⊤} g first now (Ok tt)
 
 module _ {S A E B F : Type 0} {g : Ghosts S} {a b c : Held S} {x : A} {r : Result B F} where
   -- one behind another that was Ok
-  pub over_then : ReadsOver {A = A} {E = E} g a b (Ok x) → ReadsOver g b c r → ReadsOver g a c r
+  pub over_then : ReadsOverTables {A = A} {E = E} g a b (Ok x) → ReadsOverTables g b c r → ReadsOverTables g a c r
   over_then first second = record {
     stays = stays_then first.stays (λ clean. still_same (state g a) (state g b) (first.same clean)) second.stays;
     same = λ clean. ok_then r (second.same clean) (λ more. unchanged_then (state g a) (state g b) (state g c) (first.same (second.stays.honest clean)) more);
@@ -199,9 +199,9 @@ module _ {S A E B F : Type 0} {g : Ghosts S} {a b c : Held S} {x : A} {r : Resul
 
 module _ {S A E B F : Type 0} {g : Ghosts S} {a b : Held S} where
   -- something else is returned behind an Ok
-  pub over_ok : {x : A} {r : Result B F} → ReadsOver {A = A} {E = E} g a b (Ok x) → ReadsOver g a b r
+  pub over_ok : {x : A} {r : Result B F} → ReadsOverTables {A = A} {E = E} g a b (Ok x) → ReadsOverTables g a b r
   over_ok {r = r} reads = record { stays = reads.stays; same = λ clean. if_ok r (reads.same clean) }
 
   -- and an error, of which only this is known
-  pub over_err : {r : Result A E} {e : F} → ReadsOver g a b r → ReadsOver {A = B} g a b (Err e)
+  pub over_err : {r : Result A E} {e : F} → ReadsOverTables g a b r → ReadsOverTables {A = B} g a b (Err e)
   over_err reads = record { stays = reads.stays; same = λ clean. tt }

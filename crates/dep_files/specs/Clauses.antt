@@ -44,7 +44,7 @@ module _ {S : Type 0} (g : Ghosts S) (old new : Held S) where
 
 module _ {S A E : Type 0} (g : Ghosts S) (old new : Held S) (result : Result A E) where
   -- and an Ok changes nothing at all
-  pub record ReadsOver : Type 0 where
+  pub record ReadsOverTables : Type 0 where
     pub stays : StaysOver g old new
     pub same : HasCleanDisk (state g new) → OnOk result (IsUnchanged (state g old) (state g new))
 
@@ -77,7 +77,7 @@ pub record ShowsOver {S : Type 0} (g : Ghosts S) (old new : Held S) (sql : List 
   pub shows : HasCleanDisk (state g new)
       → IfOk result (λ rows. Shown sql params (state g old) (state g new) rows.items)
   pub cause : HasCleanDisk (state g new) → IfErr result (why (state g old) (state g new))
-  pub reads : ReadsOver g old new result
+  pub reads : ReadsOverTables g old new result
 
 -- all that a call says which looks something up: what is found, why it was not, and what is kept
 pub record FindsOver {S A E : Type 0} (are_ours : State → Type 0) (g : Ghosts S) (old new : Held S)
@@ -85,7 +85,7 @@ pub record FindsOver {S A E : Type 0} (are_ours : State → Type 0) (g : Ghosts 
     : Type 0 where
   pub ok : ReportsOver are_ours g old new result found
   pub cause : FailsOver are_ours g old new result why
-  pub reads : ReadsOver g old new result
+  pub reads : ReadsOverTables g old new result
 
 -- bytes were written to the outlet, and where the tables are ours this holds of them
 abbrev pub GivesOver : {S : Type 0} → (State → Type 0) → (g : Ghosts S) (old new : Held S)

@@ -4,7 +4,7 @@ ghost use Rattle.std.specs.Prelude.{◌≢◌, [], OnOk, OnErr};
 ghost use Rattle.sqlite.specs.Held.{state};
 ghost use Rattle.dep_manifest.specs.Growing.{Grows};
 ghost use Rattle.dep_tables.specs.Tables.{IsOurs};
-ghost use Rattle.dep_files.specs.Clauses.{FailsOver, FindsOver, ReadsOver, ReportsOver};
+ghost use Rattle.dep_files.specs.Clauses.{FailsOver, FindsOver, ReadsOverTables, ReportsOver};
 ghost use Rattle.dep_files.specs.Fixity.{IsAudited, KeepsDamaged, number_if_damaged};
 ghost use Rattle.dep_files.specs.Causes.{FailsToCheck, FailsToAudit};
 
@@ -97,7 +97,7 @@ pub fn audit_files<S: Alter, W: Watch>(
         (λ t. IsAudited t object) }
     ensures cause { FailsOver IsOurs S.Store connection.old connection.new result
         (FailsToAudit (state S.Store) object) }
-    ensures reads { ReadsOver S.Store connection.old connection.new result }
+    ensures reads { ReadsOverTables S.Store connection.old connection.new result }
 {
     let rows = ask(
         connection,

@@ -2,7 +2,7 @@
 
 ghost use Rattle.std.specs.Prelude.{◌≡◌, ◌++◌, ℕ, List, None, IfErr, OnOk};
 ghost use Rattle.sqlite.specs.Order.{column};
-ghost use Rattle.dep_fixity.specs.Fixity.{Holds};
+ghost use Rattle.dep_fixity.specs.Fixity.{HashesMessage};
 ghost use Rattle.dep_types.specs.declared.store_fault.StoreFault.TheVariants.{Store};
 ghost use Rattle.dep_tables.specs.Rows.{IsBytesValue};
 ghost use Rattle.dep_tables.specs.Tables.{IsKnown};
@@ -22,8 +22,8 @@ use sqlite::{Alter, Connection, Row};
 fn hash_row<W: Watch>(row: &Row, hasher: &mut Hasher, watch: &mut W) -> Result<(), StoreFault>
     ensures refused { IfErr result
         (λ fault. (¬ (IsBytesValue (column row.now 2))) × (fault ≡ Store)) }
-    ensures holds { OnOk result ((message : List ℕ) → Holds hasher.old message
-        → Holds hasher.new (message ++ blob_of row.now)) }
+    ensures holds { OnOk result ((message : List ℕ) → HashesMessage hasher.old message
+        → HashesMessage hasher.new (message ++ blob_of row.now)) }
 {
     match row.get_ref(2) {
         Ok(ValueRef::Blob(bytes)) => {

@@ -1,7 +1,7 @@
 //! The content of a file, sent one block at a time.
 
 ghost use Rattle.dep_tables.specs.Tables.{IsOurs};
-ghost use Rattle.dep_files.specs.Clauses.{FailsOver, GivesOver, ReadsOver};
+ghost use Rattle.dep_files.specs.Clauses.{FailsOver, GivesOver, ReadsOverTables};
 ghost use Rattle.dep_files.specs.Faults.{BlamesOutlet};
 ghost use Rattle.dep_files.specs.Sent.{SendsFile};
 ghost use Rattle.dep_files.specs.Causes.{FailsToSendFile};
@@ -23,7 +23,7 @@ pub fn stream_content<S: Alter, O: Outlet>(
         (O.taken out.old) (O.taken out.new) (SendsFile file result) }
     ensures why { FailsOver IsOurs S.Store connection.old connection.new result
         (FailsToSendFile file) }
-    ensures reads { ReadsOver S.Store connection.old connection.new result }
+    ensures reads { ReadsOverTables S.Store connection.old connection.new result }
     ensures outlet { BlamesOutlet StreamFault.Writer (O.failures out.old) (O.failures out.new) result }
 {
     let Some(found) = find_size(connection, file)? else {

@@ -2,7 +2,7 @@
 
 ghost use Rattle.sqlite.specs.Held.{state};
 ghost use Rattle.dep_tables.specs.Tables.{IsKnown};
-ghost use Rattle.dep_files.specs.Clauses.{FailsOver, FindsOver, ReadsOver, ReportsOver};
+ghost use Rattle.dep_files.specs.Clauses.{FailsOver, FindsOver, ReadsOverTables, ReportsOver};
 ghost use Rattle.dep_files.specs.Sha512s.{IsValueAfter, AreValuesOf};
 ghost use Rattle.dep_files.specs.Causes.{FailsToHashNext, FailsToHashFiles};
 
@@ -44,7 +44,7 @@ pub fn hash_files<S: Alter, W: Watch>(
         (λ t values. AreValuesOf t values.items) }
     ensures cause { FailsOver IsKnown S.Store connection.old connection.new result
         (FailsToHashFiles (state S.Store)) }
-    ensures reads { ReadsOver S.Store connection.old connection.new result }
+    ensures reads { ReadsOverTables S.Store connection.old connection.new result }
 {
     let mut values = Vec::new(alloc);
     let mut last = 0;

@@ -2,7 +2,7 @@
 use Rattle.std.proofs.Common.{◌≡◌, ◌≤◌, ℕ, ◌-◌, ◌+◌, List, ◌++◌, length, take, drop, sym, ap, subst, ◌∙◌, arith, length-append, length-take, Result, Ok, Err, OnOk, OnErr}
 use Rattle.std.proofs.lemmas.List.{length-take-le, take-append-drop, take-append-le}
 use Rattle.std.proofs.Math.Seq.{take-append-add, take-take}
-use Rattle.dep_fixity.specs.Fixity.{Holds}
+use Rattle.dep_fixity.specs.Fixity.{HashesMessage}
 use Rattle.dep_fixity.specs.Hashing.{IsHashed}
 use Rattle.dep_fixity.specs.declared.hashed.Hashed.{Hashed}
 
@@ -10,14 +10,14 @@ use Rattle.dep_fixity.specs.declared.hashed.Hashed.{Hashed}
 pub with_more : (h : Hashed) (octets more : List ℕ) → IsHashed h octets → IsHashed h (octets ++ more)
 with_more h octets more is = record {
   within = omega (arith, is.within, length-append octets more);
-  holds = subst (Holds h.hasher) (sym (take-append-le h.count octets more is.within)) is.holds;
+  holds = subst (HashesMessage h.hasher) (sym (take-append-le h.count octets more is.within)) is.holds;
 }
 
 -- without those behind the first
 pub with_less : (h : Hashed) (octets : List ℕ) (count : ℕ) → h.count ≤ count → IsHashed h octets → IsHashed h (take count octets)
 with_less h octets count kept is = record {
   within = omega (arith, is.within, kept, length-take count octets);
-  holds = subst (Holds h.hasher) (sym (take-take h.count count octets kept)) is.holds;
+  holds = subst (HashesMessage h.hasher) (sym (take-take h.count count octets kept)) is.holds;
 }
 
 -- the first octets are fewer of them and those up to there
@@ -30,10 +30,10 @@ front_is octets i n less within =
 
 -- the hasher was given those up to there too
 pub with_next : (octets : List ℕ) (h g : Hashed) → IsHashed h octets → h.count ≤ g.count → g.count ≤ length octets
-    → Holds g.hasher (take h.count octets ++ take (g.count - h.count) (drop h.count octets)) → IsHashed g octets
+    → HashesMessage g.hasher (take h.count octets ++ take (g.count - h.count) (drop h.count octets)) → IsHashed g octets
 with_next octets h g is less within holds = record {
   within = within;
-  holds = subst (Holds g.hasher) (front_is octets h.count g.count less is.within) holds;
+  holds = subst (HashesMessage g.hasher) (front_is octets h.count g.count less is.within) holds;
 }
 
 -- the same octets, or more of them

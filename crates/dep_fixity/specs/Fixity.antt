@@ -107,6 +107,6 @@ abbrev pub digests_of : List ℕ → Digests
 digests_of message = record { sha256 = sha256 message; sha512 = sha512 message }
 
 -- the pieces that the hasher was given make this message
-pub record Holds (hasher : Hasher) (message : List ℕ) : Type 0 where
+pub record HashesMessage (hasher : Hasher) (message : List ℕ) : Type 0 where
   pub sha256 : Holds256 hasher.sha256 message
   pub sha512 : Holds512 hasher.sha512 message

@@ -1,12 +1,12 @@
 -- Octets that are hashed while they come.
 use Rattle.std.specs.Prelude.{◌≡◌, ◌≤◌, ℕ, List, length, take, Option, Some}
-use Rattle.dep_fixity.specs.Fixity.{Holds}
+use Rattle.dep_fixity.specs.Fixity.{HashesMessage}
 use Rattle.dep_fixity.specs.declared.hashed.Hashed.{Hashed}
 
 -- the hasher was given the first of the octets, as many as are counted
 pub record IsHashed (hashed : Hashed) (octets : List ℕ) : Type 0 where
   pub within : hashed.count ≤ length octets
-  pub holds : Holds hashed.hasher (take hashed.count octets)
+  pub holds : HashesMessage hashed.hasher (take hashed.count octets)
 
 -- so is what was hashed, if anything was
 abbrev pub AreHashed : Option Hashed → List ℕ → Type 0

@@ -19,11 +19,11 @@ pub struct Hasher {
 
 impl Hasher {
     ghost use Rattle.std.specs.Prelude.{◌≡◌, ℕ, List, [], ◌++◌};
-    ghost use Rattle.dep_fixity.specs.Fixity.{Holds, digests_of};
+    ghost use Rattle.dep_fixity.specs.Fixity.{HashesMessage, digests_of};
 
     /// A hasher of the message of no octets.
     pub fn new() -> Hasher
-        ensures { Holds result [] }
+        ensures { HashesMessage result [] }
     {
         Hasher {
             sha256: Sha256::new(),
@@ -43,7 +43,7 @@ impl Hasher {
 
     /// Adds a piece to the end of the message. However the message is cut into pieces, its digests are the same.
     pub fn update(&mut self, piece: &[u8])
-        ensures { (message : List ℕ) → Holds self.old message → Holds self.new (message ++ piece.now) }
+        ensures { (message : List ℕ) → HashesMessage self.old message → HashesMessage self.new (message ++ piece.now) }
     {
         self.sha256.update(piece);
         self.sha512.update(piece);
@@ -51,7 +51,7 @@ impl Hasher {
 
     /// The digests of the pieces so far, joined in their order.
     pub fn finish(self) -> Digests
-        ensures { (message : List ℕ) → Holds self message → result ≡ digests_of message }
+        ensures { (message : List ℕ) → HashesMessage self message → result ≡ digests_of message }
     {
         Digests {
             sha256: self.sha256.finalize(),

@@ -17,7 +17,7 @@ use Rattle.dep_hub.specs.declared.rest.Behind.TheVariants.{Nothing, Waits}
 use Rattle.dep_hub.proofs.PreparingLemmas.{ahead_sends}
 use Rattle.dep_hub.proofs.SourceLemmas.{kept_sends, unawaited_unsent}
 use Rattle.dep_slot.specs.Slots.{SameBehind}
-use Rattle.dep_host.specs.Hosting.{Position, HostAction, Step, refused, asks, comes, rests, offers, delays, sends, refuses, answers, leaves, Steps, begins, goes_on}
+use Rattle.dep_host.specs.Hosting.{Position, HostAction, HostStep, refused, asks, comes, rests, offers, delays, sends, refuses, answers, leaves, Steps, begins, goes_on}
 use Rattle.dep_host.specs.Laws.{StepsAwaiting, waits_first, waits_on}
 use Rattle.dep_host.specs.Runs.{reply_count}
 use Rattle.dep_host.proofs.CloseLemmas.{clean_before}
@@ -54,7 +54,7 @@ module _ {A R K S : Type 0} (condition : A → Condition) (unread : R → Option
   not_closed files true b is_sent = cc is_sent
   not_closed files false b is_sent = is_sent
 
-  step_begins_none : {p q : Position A R K S} {more : List HostAction} (w : World) (holds : ℕ → List ℕ) → RepresentsHolding condition p.hub w holds → Step condition unread taken held p q more
+  step_begins_none : {p q : Position A R K S} {more : List HostAction} (w : World) (holds : ℕ → List ℕ) → RepresentsHolding condition p.hub w holds → HostStep condition unread taken held p q more
       → IsClean condition q.hub → (waiting : ℕ) (files : Files) → behind_at q.hub.connections.items waiting ≡ Waits (Takes files)
       → (k : ℕ) → sends_of files (behind_at q.hub.connections.items k) ≡ true → SentBefore p more files k
   step_begins_none {p = p} {q = q} w holds at (refused r) clean waiting files waits k is_sent = (same_before p.hub q.hub files k (r.behind k) is_sent, refl)

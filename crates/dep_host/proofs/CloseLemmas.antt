@@ -9,7 +9,7 @@ use Rattle.dep_hub.specs.Representing.{IsClean, ServesAs}
 use Rattle.dep_hub.specs.declared.hub.Hub.{Hub}
 use Rattle.dep_slot.specs.declared.slot.Slot.{Slot}
 use Rattle.dep_slot.specs.declared.log.Closing.{Closing}
-use Rattle.dep_host.specs.Hosting.{Position, slot_at, HostAction, Opens, Takes, Replies, Sends, Declines, Closes, Step, refused, asks, comes, rests, offers, delays, sends, refuses, answers, leaves, Steps, begins, goes_on, LeadsTo}
+use Rattle.dep_host.specs.Hosting.{Position, slot_at, HostAction, Opens, Takes, Replies, Sends, Declines, Closes, HostStep, refused, asks, comes, rests, offers, delays, sends, refuses, answers, leaves, Steps, begins, goes_on, LeadsTo}
 use Rattle.dep_slot.specs.Slots.{HubStays}
 use Rattle.dep_host.specs.Runs.{KeepsPromise, OwesNone, Promises}
 
@@ -45,7 +45,7 @@ module _ {A R K S : Type 0} (condition : A → Condition) (unread : R → Option
   stays_serves old new h = record { config = h.same_config; clean = h.clean; honest = h.honest }
 
   -- the hub keeps its configuration, and was open before and its disk honest where they are so now
-  step_serves : {p q : Position A R K S} {more : List HostAction} → Step condition unread taken held p q more → ServesAs condition p.hub q.hub
+  step_serves : {p q : Position A R K S} {more : List HostAction} → HostStep condition unread taken held p q more → ServesAs condition p.hub q.hub
   step_serves {p = p} {q = q} (refused r) = same_store_serves p.hub q.hub r.same_store r.same_config
   step_serves {p = p} {q = q} (asks r) = stays_serves p.hub q.hub r.hub
   step_serves {p = p} {q = q} (comes r) = same_store_serves p.hub q.hub r.same_store r.same_config
@@ -64,7 +64,7 @@ module _ {A R K S : Type 0} (condition : A → Condition) (unread : R → Option
       let after = step_serves t in
       record { config = after.config ∙ before.config; clean = λ h. before.clean (after.clean h); honest = λ h. before.honest (after.honest h) }
 
-  pub clean_before : {p q : Position A R K S} {more : List HostAction} → Step condition unread taken held p q more → IsClean condition q.hub → IsClean condition p.hub
+  pub clean_before : {p q : Position A R K S} {more : List HostAction} → HostStep condition unread taken held p q more → IsClean condition q.hub → IsClean condition p.hub
   clean_before s clean = (step_serves s).clean clean
 
   -- where the host stood when a connection was closed, which sat there
@@ -84,7 +84,7 @@ module _ {A R K S : Type 0} (condition : A → Condition) (unread : R → Option
     | inr more ↦ before more.0 more.1
   ]
 
-  stood_step : {p m q : Position A R K S} {ds more : List HostAction} (done later : List HostAction) (at n second : ℕ) (reason : Closing) → Step condition unread taken held m q more → IsClean condition q.hub
+  stood_step : {p m q : Position A R K S} {ds more : List HostAction} (done later : List HostAction) (at n second : ℕ) (reason : Closing) → HostStep condition unread taken held m q more → IsClean condition q.hub
       → Steps condition unread taken held p ds m → ((later : List HostAction) → ds ≡ done ++ Closes at n second reason ∷ later → Stood p done at n)
       → ds ++ more ≡ done ++ Closes at n second reason ∷ later → Stood p done at n
   stood_step {ds = ds} done later at n second reason (refused r) clean s before h = before later (sym (append-nil ds) ∙ h)

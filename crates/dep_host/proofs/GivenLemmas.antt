@@ -7,8 +7,8 @@ use Rattle.std.specs.Io.KnownBytes.{Keeps, Consumes}
 use Rattle.dep_types.specs.Conditions.{Condition}
 use Rattle.dep_slot.specs.declared.slot.Slot.{Slot}
 use Rattle.dep_slot.specs.ConnectionStates.{is_ended}
-use Rattle.dep_host.specs.Hosting.{Position, slot_at, HostAction, Opens, Takes, Replies, Sends, Declines, Closes, AreShown, Step, refused, asks, comes, rests, offers, delays, sends, refuses, answers, leaves, HasTurn, Steps, begins, goes_on}
-use Rattle.dep_host.specs.Runs.{read_by, read_of, given_by, given_of, IsGiven}
+use Rattle.dep_host.specs.Hosting.{Position, slot_at, HostAction, Opens, Takes, Replies, Sends, Declines, Closes, AreShown, HostStep, refused, asks, comes, rests, offers, delays, sends, refuses, answers, leaves, GivesTurn, Steps, begins, goes_on}
+use Rattle.dep_host.specs.Runs.{read_by, read_of, given_by, given_of, ReadsItsSource}
 use Rattle.dep_host.proofs.ReadLemmas.{read_append}
 use Rattle.dep_host.proofs.ReportLemmas.{Tidy, steps_tidy, slot_set, some_same, no_some, reported_keeps}
 use Rattle.std.proofs.lemmas.Grind.{flat_map-append}
@@ -42,10 +42,10 @@ same_read n actions more e = read_append n actions more ∙ (ap (λ l. read_of n
 
 module _ {A R K S : Type 0} (condition : A → Condition) (unread : R → Option (List ℕ)) (taken : K → Option (List ℕ)) (held : S → Option (List ℕ)) (gives : (r : R) → AreShown (unread r)) where
   record Given (q : Position A R K S) (actions : List HostAction) : Type 0 where
-    given : (at : ℕ) (slot : Slot R K S) → slot_at at q.slots ≡ Some slot → IsGiven unread actions slot
+    given : (at : ℕ) (slot : Slot R K S) → slot_at at q.slots ≡ Some slot → ReadsItsSource unread actions slot
     unopened : (n : ℕ) → q.hub.next ≤ n → IsOfOthers n actions
 
-  given_on : (slot : Slot R K S) (actions more : List HostAction) → IsGiven unread actions slot → IsOfOthers slot.connection more → IsGiven unread (actions ++ more) slot
+  given_on : (slot : Slot R K S) (actions more : List HostAction) → ReadsItsSource unread actions slot → IsOfOthers slot.connection more → ReadsItsSource unread (actions ++ more) slot
   given_on slot actions more g none = record {
     rest = g.rest;
     whole = same_given slot.connection actions more none.0 ∙ (g.whole ∙ ap (λ (l : List ℕ). Some (l ++ g.rest) ∷ []) (sym (same_read slot.connection actions more none.1)));
@@ -55,7 +55,7 @@ module _ {A R K S : Type 0} (condition : A → Condition) (unread : R → Option
   -- one place changes
   given_set : (p q : Position A R K S) (actions more : List HostAction) (at : ℕ) (x : Option (Slot R K S)) → Given p actions
       → at < length p.slots → q.slots ≡ set p.slots at x → p.hub.next ≤ q.hub.next
-      → ((s : Slot R K S) → x ≡ Some s → IsGiven unread (actions ++ more) s)
+      → ((s : Slot R K S) → x ≡ Some s → ReadsItsSource unread (actions ++ more) s)
       → ((j : ℕ) (t : Slot R K S) → (j ≡ at → ⊥) → slot_at j p.slots ≡ Some t → IsOfOthers t.connection more)
       → ((n : ℕ) → q.hub.next ≤ n → IsOfOthers n more) → Given q (actions ++ more)
   given_set p q actions more at x g there sits later put others none = record {
@@ -75,23 +75,23 @@ module _ {A R K S : Type 0} (condition : A → Condition) (unread : R → Option
 
   -- a turn in which nothing was read
   given_turn : (p q : Position A R K S) (actions more : List HostAction) (at : ℕ) (before after : Slot R K S) → Given p actions
-      → HasTurn condition unread taken held p q at before after → ((n : ℕ) → IsOfOthers n more)
+      → GivesTurn condition unread taken held p q at before after → ((n : ℕ) → IsOfOthers n more)
       → (is_ended after.state.phase ≡ false → Keeps (unread before.source) (unread after.source)) → Given q (actions ++ more)
   given_turn p q actions more at before after g t none keeps =
       let later : p.hub.next ≤ q.hub.next = let e = t.hub.next in omega (arith, e) in
       let was = given_on before actions more (g.given at before t.sat) (none before.connection) in
-      let now : IsGiven unread (actions ++ more) after = record {
+      let now : ReadsItsSource unread (actions ++ more) after = record {
         rest = was.rest;
         whole = subst (λ (n : ℕ). given_of n (actions ++ more) ≡ Some (read_of n (actions ++ more) ++ was.rest) ∷ []) (sym t.client.connection) was.whole;
         left = λ h. reported_keeps (unread before.source) (unread after.source) was.rest (keeps h) (gives after.source) (was.left (not_ended (is_ended before.state.phase) (is_ended after.state.phase) t.ended h));
       } in
       given_set p q actions more at (Some after) g t.there t.sits later
-      (λ s e. subst (λ (u : Slot R K S). IsGiven unread (actions ++ more) u) (some_same after s e) now)
+      (λ s e. subst (λ (u : Slot R K S). ReadsItsSource unread (actions ++ more) u) (some_same after s e) now)
       (λ j u ne h. none u.connection) (λ n h. none n)
 
   -- and one in which a piece was
   given_piece : (p q : Position A R K S) (actions : List HostAction) (one : HostAction) (at : ℕ) (before after : Slot R K S) (piece : List ℕ) → Tidy condition unread taken held p actions
-      → Given p actions → HasTurn condition unread taken held p q at before after → ((n : ℕ) → given_by n one ≡ []) → ((n : ℕ) → read_by n one ≡ (if n == before.connection then piece else []))
+      → Given p actions → GivesTurn condition unread taken held p q at before after → ((n : ℕ) → given_by n one ≡ []) → ((n : ℕ) → read_by n one ≡ (if n == before.connection then piece else []))
       → is_ended before.state.phase ≡ false → Consumes (unread before.source) (unread after.source) piece → Given q (actions ++ one ∷ [])
   given_piece p q actions one at before after piece tidy g t none read was_open consumes =
       let later : p.hub.next ≤ q.hub.next = let e = t.hub.next in omega (arith, e) in
@@ -107,13 +107,13 @@ module _ {A R K S : Type 0} (condition : A → Condition) (unread : R → Option
       let whole : given_of before.connection (actions ++ one ∷ []) ≡ Some (read_of before.connection (actions ++ one ∷ []) ++ takes.0) ∷ [] =
       same_given before.connection actions (one ∷ []) (unopened before.connection) ∙ (was.whole ∙ ap (λ (l : List ℕ). Some l ∷ []) (ap (λ l. read_of before.connection actions ++ l) takes.1.1
       ∙ (sym (append_assoc (read_of before.connection actions) piece takes.0) ∙ ap (λ l. l ++ takes.0) (sym reads)))) in
-      let now : IsGiven unread (actions ++ one ∷ []) after = record {
+      let now : ReadsItsSource unread (actions ++ one ∷ []) after = record {
         rest = takes.0;
         whole = subst (λ (n : ℕ). given_of n (actions ++ one ∷ []) ≡ Some (read_of n (actions ++ one ∷ []) ++ takes.0) ∷ []) (sym t.client.connection) whole;
         left = λ h. takes.1.0;
       } in
       given_set p q actions (one ∷ []) at (Some after) g t.there t.sits later
-      (λ s e. subst (λ (u : Slot R K S). IsGiven unread (actions ++ one ∷ []) u) (some_same after s e) now)
+      (λ s e. subst (λ (u : Slot R K S). ReadsItsSource unread (actions ++ one ∷ []) u) (some_same after s e) now)
       (λ j u ne h. (unopened u.connection, elsewhere u.connection (λ e. ne (tidy.apart j at u before h t.sat e))))
       (λ n h. (unopened n, elsewhere n (λ e. let lower = tidy.below at before t.sat in omega (arith, lower, h, e, later))))
 
@@ -121,7 +121,7 @@ module _ {A R K S : Type 0} (condition : A → Condition) (unread : R → Option
   same_source before after same = subst (λ (s : R). Keeps (unread before.source) (unread s)) (sym same) (Keeps-refl (unread before.source))
 
   step_given : {p q : Position A R K S} {actions more : List HostAction} → Tidy condition unread taken held p actions → Given p actions
-      → Step condition unread taken held p q more → Given q (actions ++ more)
+      → HostStep condition unread taken held p q more → Given q (actions ++ more)
   step_given {p = p} {q = q} {actions = actions} tidy g (refused r) = given_same p q actions r.sits r.next g
   step_given {p = p} {q = q} {actions = actions} tidy g (asks r) = given_same p q actions r.sits r.hub.next g
   step_given {p = p} {q = q} {actions = actions} tidy g (comes {at = at} {slot = slot} r) =
@@ -134,14 +134,14 @@ module _ {A R K S : Type 0} (condition : A → Condition) (unread : R → Option
       ∙ (ap (λ (b : Bool). if b then unread slot.source ∷ [] else []) (eq-eqb slot.connection slot.connection refl) ∙ ap (λ (o : Option (List ℕ)). o ∷ []) bytes.1) in
       let elsewhere : (n : ℕ) → (n ≡ slot.connection → ⊥) → IsOfOthers n (one ∷ []) =
       λ n ne. (append-nil (given_by n one) ∙ ap (λ (b : Bool). if b then unread slot.source ∷ [] else []) (ne_eqb n slot.connection ne), refl) in
-      let now : IsGiven unread (actions ++ one ∷ []) slot = record {
+      let now : ReadsItsSource unread (actions ++ one ∷ []) slot = record {
         rest = bytes.0;
         whole = given_append slot.connection actions (one ∷ []) ∙ (ap (λ (l : List (Option (List ℕ))). l ++ given_of slot.connection (one ∷ [])) u.0 ∙ (here
             ∙ ap (λ (l : List ℕ). Some (l ++ bytes.0) ∷ []) (sym (same_read slot.connection actions (one ∷ []) refl ∙ u.1))));
         left = λ h. bytes.1;
       } in
       given_set p q actions (one ∷ []) at (Some slot) g r.there r.sits later
-      (λ s e. subst (λ (v : Slot R K S). IsGiven unread (actions ++ one ∷ []) v) (some_same slot s e) now)
+      (λ s e. subst (λ (v : Slot R K S). ReadsItsSource unread (actions ++ one ∷ []) v) (some_same slot s e) now)
       (λ j t ne h. elsewhere t.connection (λ e. let lower = tidy.below j t h in omega (arith, lower, first, e)))
       (λ n h. elsewhere n (λ e. let f = r.next in let i = r.is_next in omega (arith, h, f, i, e)))
   step_given {p = p} {q = q} {actions = actions} tidy g (rests {at = at} {before = before} {after = after} t r) =
@@ -168,5 +168,5 @@ module _ {A R K S : Type 0} (condition : A → Condition) (unread : R → Option
   steps_given empty (goes_on s t) = step_given (steps_tidy condition unread taken held empty s) (steps_given empty s) t
 
   pub reads_given : (p q : Position A R K S) (actions : List HostAction) → ((at : ℕ) → slot_at at p.slots ≡ None) → Steps condition unread taken held p actions q
-      → (at : ℕ) (slot : Slot R K S) → slot_at at q.slots ≡ Some slot → IsGiven unread actions slot
+      → (at : ℕ) (slot : Slot R K S) → slot_at at q.slots ≡ Some slot → ReadsItsSource unread actions slot
   reads_given p q actions empty steps at slot h = (steps_given empty steps).given at slot h

@@ -30,7 +30,7 @@ use Rattle.dep_slot.specs.declared.log.Closing.TheVariants.{Large}
 use Rattle.dep_slot.specs.declared.connection_state.Phase.TheVariants.{Open}
 use Rattle.dep_slot.specs.Notes.{Note, GrowsWhereShown}
 use Rattle.dep_slot.specs.Slots.{SameBehind, SameClient}
-use Rattle.dep_host.specs.Hosting.{Position, slot_at, farewell, MayGo, Stays, HostAction, Closes, unfinished_of, unfinished_in, Goes, IsRightlyReported, Asks, Refused, Step, refused, asks, rests, Steps, begins, goes_on, EvictsLargest}
+use Rattle.dep_host.specs.Hosting.{Position, slot_at, farewell, MayGo, HostStays, HostAction, Closes, unfinished_of, unfinished_in, Goes, IsRightlyReported, Asks, Refused, HostStep, refused, asks, rests, Steps, begins, goes_on, EvictsLargest}
 
 -- what a log is told
 pub grows_none : {X : Type 0} (reported : Option (List X)) → GrowsWhereShown reported reported []
@@ -113,12 +113,12 @@ pub closes_there : {A R K S : Type 0} (p : Position A R K S) (at second : ℕ) (
 closes_there {R = R} {K = K} {S = S} p at second slot reported reason sat e is = subst (λ (o : Option (Slot R K S)). MayGo p second reason o) (sym sat) (inl (sym e ∙ is))
 
 -- nothing of what stays changed
-pub stays_same : {A R K S : Type 0} (p : Host A R K S) → Stays p p
+pub stays_same : {A R K S : Type 0} (p : Host A R K S) → HostStays p p
 stays_same p = record { places = refl; limits = refl; shut = refl; unanswered = refl; first = refl }
 
 -- one place changed
 pub stays_set : {A R K S : Type 0} (p q : Host A R K S) (at : ℕ) (x : Option (Slot R K S)) → q.slots.items ≡ set p.slots.items at x → q.limits ≡ p.limits → q.shut ≡ p.shut
-    → q.unanswered ≡ p.unanswered → q.first ≡ p.first → Stays p q
+    → q.unanswered ≡ p.unanswered → q.first ≡ p.first → HostStays p q
 stays_set {R = R} {K = K} {S = S} p q at x slots limits shut unanswered first = record {
   places = ap (λ (l : List (Option (Slot R K S))). length l) slots ∙ length-set p.slots.items at x;
   limits = limits;
@@ -127,7 +127,7 @@ stays_set {R = R} {K = K} {S = S} p q at x slots limits shut unanswered first = 
   first = first;
 }
 
-pub stays_on : {A R K S : Type 0} (p q r : Host A R K S) → Stays p q → Stays q r → Stays p r
+pub stays_on : {A R K S : Type 0} (p q r : Host A R K S) → HostStays p q → HostStays q r → HostStays p r
 stays_on p q r s t = record {
   places = t.places ∙ s.places;
   limits = t.limits ∙ s.limits;
@@ -203,7 +203,7 @@ module _ {A R K S : Type 0} (condition : A → Condition) (unread : R → Option
   pub represents_still : (p : Position A R K S) → Steps condition unread taken held p [] p
   represents_still p = begins
 
-  pub alone : (p q : Position A R K S) (more : List HostAction) → Step condition unread taken held p q more → Steps condition unread taken held p more q
+  pub alone : (p q : Position A R K S) (more : List HostAction) → HostStep condition unread taken held p q more → Steps condition unread taken held p more q
   alone p q more s = goes_on begins s
 
   pub steps_join : {p q r : Position A R K S} {xs ys : List HostAction} → Steps condition unread taken held p xs q → Steps condition unread taken held q ys r → Steps condition unread taken held p (xs ++ ys) r
@@ -225,7 +225,7 @@ module _ {A R K S : Type 0} (condition : A → Condition) (unread : R → Option
 
   -- a place was looked at, and stands as it stood
   pub unchanged : (p q : Position A R K S) (at : ℕ) (x : Option (Slot R K S)) → q.hub ≡ p.hub → q.limits ≡ p.limits → q.shut ≡ p.shut → q.slots ≡ set p.slots at x → at < length p.slots → x ≡ get_or p.slots at x
-      → Step condition unread taken held p q []
+      → HostStep condition unread taken held p q []
   unchanged p q at x hub limits shut slots there read =
       refused (untouched p q hub limits shut (slots ∙ (ap (λ (y : Option (Slot R K S)). set p.slots at y) read ∙ set-get_or p.slots at x)))
 

@@ -22,7 +22,7 @@ use Rattle.dep_host.specs.declared.events.Event.{Event}
 use Rattle.dep_host.specs.declared.events.Event.TheVariants as came
 use Rattle.dep_host.specs.declared.serving.Ended.{Ended}
 use Rattle.dep_host.specs.declared.serving.Ended.TheVariants as ended
-use Rattle.dep_host.specs.Coming.{Call, seconds_of, seconds_in}
+use Rattle.dep_host.specs.Coming.{PollCall, seconds_of, seconds_in}
 use Rattle.dep_slot.specs.ConnectionStates.{is_past}
 use Rattle.dep_slot.specs.Causes.{Causes}
 use Rattle.dep_slot.specs.Slots.{woken_slot}
@@ -30,7 +30,7 @@ use Rattle.dep_hub.specs.declared.hub.Hub.{Hub}
 use Rattle.dep_hub.specs.Representing.{IsClean, IsHonest}
 use Rattle.dep_hub.specs.Holding.{RepresentsHolding}
 use Rattle.dep_hub.specs.RepresentsOwing.{behind_at}
-use Rattle.dep_host.specs.Hosting.{HostAction, IsEmpty, Position, Steps, position, slot_at, refused, comes, StandsStill}
+use Rattle.dep_host.specs.Hosting.{HostAction, IsEmpty, Position, Steps, position, slot_at, refused, comes, HubStandsStill}
 use Rattle.dep_hub.specs.declared.faults.ConnectFault.{ConnectFault}
 use Rattle.dep_hub.specs.declared.faults.ConnectFault.TheVariants as fault
 use Rattle.dep_host.specs.Meeting.{IsOffer, MayCall, IsShutBy, MayEnd, Stops, Wakes, MayRefuse, IsFull, TurnsAway, Admits, Meets, refusal_for, refusal_of, rejection_for, shut_by, wakes, lets_in, turns_away, makes_round, stops, IsMet, begins, goes_on, all_given, Met}
@@ -130,14 +130,14 @@ may_end_on : {A R K S : Type 0} (host : Host A R K S) (why : Cause) (xs ys : Lis
 may_end_on host why xs ys (shut, inl empty) = (shut, inl empty)
 may_end_on host why xs ys (shut, inr late) = (shut, inr (late.0, Contains-append_right xs ys late.0 late.1, late.2))
 
-given_more : {R K S : Type 0} (old new : Option (List (Call R K S))) (last : Call R K S) (calls : List (Call R K S)) (end : Ended) → (end ≡ ended.Events → ⊥) → GrowsWhereShown old new calls → GrowsWhereShown old new (all_given end last calls)
+given_more : {R K S : Type 0} (old new : Option (List (PollCall R K S))) (last : PollCall R K S) (calls : List (PollCall R K S)) (end : Ended) → (end ≡ ended.Events → ⊥) → GrowsWhereShown old new calls → GrowsWhereShown old new (all_given end last calls)
 given_more old new last calls ended.Events more g = absurd (more refl)
 given_more old new last calls (ended.Shut why) more g = g
 given_more old new last calls ended.Spent more g = g
 
-seconds_more : {R K S : Type 0} (calls : List (Call R K S)) (call : Call R K S) → seconds_in (calls ++ call ∷ []) ≡ seconds_in calls ++ seconds_of call.event
+seconds_more : {R K S : Type 0} (calls : List (PollCall R K S)) (call : PollCall R K S) → seconds_in (calls ++ call ∷ []) ≡ seconds_in calls ++ seconds_of call.event
 seconds_more {R = R} {K = K} {S = S} calls call =
-    flat_map-append (λ (c : Call R K S). seconds_of c.event) calls (call ∷ []) ∙ ap (λ (l : List ℕ). seconds_in calls ++ l) (append-nil (seconds_of call.event))
+    flat_map-append (λ (c : PollCall R K S). seconds_of c.event) calls (call ∷ []) ∙ ap (λ (l : List ℕ). seconds_in calls ++ l) (append-nil (seconds_of call.event))
 
 -- a client may be rejected for whom the hub opens no connection
 pub hub_refuses : {T A R K S : Type 0} (p : Host A R K S) (client : Client R K S) (f : ConnectFault) → IsNone p.shut → (IsErrOf {T = T} (Err f) fault.Full → IsFull p.hub) → MayRefuse p client (rejection_for f)
@@ -154,7 +154,7 @@ module _ {A R K S : Type 0} (condition : A → Condition) (unread : R → Option
       (h.slots ∙ ap (λ (o : Option (Slot R K S)). set p.slots.items at (option_map (λ (s : Slot R K S). woken_slot s r w) o)) e)
       h.same_hub h.stays.limits h.stays.shut (record { connection = refl; address = refl }) refl refl (λ h. h) (still_same before.state.phase) (λ h. h) refl
 
-  same_hub_represents : (old new : Hub A) → new ≡ old → StandsStill condition old new
+  same_hub_represents : (old new : Hub A) → new ≡ old → HubStandsStill condition old new
   same_hub_represents old new same = λ is_clean w kept at. subst (λ (h : Hub A). RepresentsHolding condition h w kept) (sym same) at
 
   -- what is told to stop isn't told of its store
@@ -235,7 +235,7 @@ module _ {A R K S : Type 0} (condition : A → Condition) (unread : R → Option
         (subst (λ (o : Option Shut). IsReported h.mid.shut o (time.second ∷ [])) (sym h.asks.stays.shut) h.asks.asks.reported)
     meets_reported {p = p} {q = q} (stops {second = second} h same) = stops_reported p q second h
 
-    pub met_none : (reported : Option (List (Call R K S))) (p : Host A R K S) (l : L) → Met condition call_log unread taken held size causes notes reported reported p p l l [] 0 ended.Spent
+    pub met_none : (reported : Option (List (PollCall R K S))) (p : Host A R K S) (l : L) → Met condition call_log unread taken held size causes notes reported reported p p l l [] 0 ended.Spent
     met_none reported p l = record {
       calls = [];
       last = record { offer = None; is_busy = true; event = came.End };
@@ -248,7 +248,7 @@ module _ {A R K S : Type 0} (condition : A → Condition) (unread : R → Option
       spent = λ e. refl;
     }
 
-    pub met_on : (old mid new : Option (List (Call R K S))) (p q r : Host A R K S) (l m n : L) (call : Call R K S) (actions more : List HostAction) (count most : ℕ) (end : Ended)
+    pub met_on : (old mid new : Option (List (PollCall R K S))) (p q r : Host A R K S) (l m n : L) (call : PollCall R K S) (actions more : List HostAction) (count most : ℕ) (end : Ended)
         → Met condition call_log unread taken held size causes notes old mid p q l m actions count ended.Spent → GrowsWhereShown mid new (call ∷ []) → MayCall size q call
         → Meets condition call_log unread taken held size causes notes q r m n call.offer call.event more
         → (end ≡ ended.Events → ⊥) → (((why : Cause) → end ≡ ended.Shut why → ⊥) → AllByRecursion (λ second. is_overdue r.shut second r.limits ≡ false) (seconds_of call.event))
@@ -273,7 +273,7 @@ module _ {A R K S : Type 0} (condition : A → Condition) (unread : R → Option
         }
 
     -- the last event, behind which nothing more is asked for
-    ended_by : (T : Type 0) (old mid new : Option (List (Call R K S))) (p q r : Host A R K S) (l m n : L) (call : Call R K S) (actions : List HostAction) (count most : ℕ) (end : Ended)
+    ended_by : (T : Type 0) (old mid new : Option (List (PollCall R K S))) (p q r : Host A R K S) (l m n : L) (call : PollCall R K S) (actions : List HostAction) (count most : ℕ) (end : Ended)
         → Met condition call_log unread taken held size causes notes old mid p q l m actions count ended.Spent → GrowsWhereShown mid new (call ∷ []) → MayCall size q call
         → IsMet condition call_log unread taken held size causes notes {T = T} q r m n call.offer call.event (Err end)
         → ((why : Cause) → end ≡ ended.Shut why → MayEnd r why (seconds_of call.event)) → (all : List HostAction) × Met condition call_log unread taken held size causes notes old new p r l n all most end
@@ -300,14 +300,14 @@ module _ {A R K S : Type 0} (condition : A → Condition) (unread : R → Option
     )
     ended_by T old mid new p q r l m n call actions count most ended.Spent s g offered h may = absurd h
 
-    pub met_last : {T : Type 0} (old mid new : Option (List (Call R K S))) (p q r : Host A R K S) (l m n : L) (call : Call R K S) (actions : List HostAction) (count most : ℕ) (end : Ended) (result : Result T Ended)
+    pub met_last : {T : Type 0} (old mid new : Option (List (PollCall R K S))) (p q r : Host A R K S) (l m n : L) (call : PollCall R K S) (actions : List HostAction) (count most : ℕ) (end : Ended) (result : Result T Ended)
         → result ≡ Err end → Met condition call_log unread taken held size causes notes old mid p q l m actions count ended.Spent → GrowsWhereShown mid new (call ∷ []) → MayCall size q call
         → IsMet condition call_log unread taken held size causes notes q r m n call.offer call.event result
         → ((why : Cause) → result ≡ Err (ended.Shut why) → MayEnd r why (seconds_of call.event)) → (all : List HostAction) × Met condition call_log unread taken held size causes notes old new p r l n all most end
     met_last {T = T} old mid new p q r l m n call actions count most end result is s g offered h may =
         ended_by T old mid new p q r l m n call actions count most end s g offered (subst (λ (k : Result T Ended). IsMet condition call_log unread taken held size causes notes q r m n call.offer call.event k) is h) (λ why e. may why (is ∙ ap Err e))
 
-    pub met_next : (old mid new : Option (List (Call R K S))) (p q r : Host A R K S) (l m n : L) (call : Call R K S) (count most : ℕ)
+    pub met_next : (old mid new : Option (List (PollCall R K S))) (p q r : Host A R K S) (l m n : L) (call : PollCall R K S) (count most : ℕ)
         → (actions : List HostAction) × Met condition call_log unread taken held size causes notes old mid p q l m actions count ended.Spent → GrowsWhereShown mid new (call ∷ []) → MayCall size q call
         → IsMetBySome q r m n call.offer call.event → AllByRecursion (λ second. is_overdue r.shut second r.limits ≡ false) (seconds_of call.event) → most ≡ count + 1
         → (actions : List HostAction) × Met condition call_log unread taken held size causes notes old new p r l n actions most ended.Spent
@@ -318,7 +318,7 @@ module _ {A R K S : Type 0} (condition : A → Condition) (unread : R → Option
     )
 
     -- as many came as may
-    pub met_all : (old new : Option (List (Call R K S))) (p q : Host A R K S) (l m : L) (count most : ℕ) → count ≡ most
+    pub met_all : (old new : Option (List (PollCall R K S))) (p q : Host A R K S) (l m : L) (count most : ℕ) → count ≡ most
         → (actions : List HostAction) × Met condition call_log unread taken held size causes notes old new p q l m actions count ended.Spent
         → (actions : List HostAction) × Met condition call_log unread taken held size causes notes old new p q l m actions most ended.Spent
     met_all old new p q l m count most e h = subst (λ (n : ℕ). (actions : List HostAction) × Met condition call_log unread taken held size causes notes old new p q l m actions n ended.Spent) e h

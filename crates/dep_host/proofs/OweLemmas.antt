@@ -28,8 +28,8 @@ use Rattle.dep_slot.specs.declared.connection_state.Phase.{Phase}
 use Rattle.dep_slot.specs.declared.connection_state.Phase.TheVariants.{Open, Over}
 use Rattle.dep_slot.specs.ConnectionStates.{is_sending}
 use Rattle.dep_slot.specs.Slots.{SameBehind}
-use Rattle.dep_host.specs.Hosting.{Position, slot_at, AreShown, HostAction, Opens, Takes, Replies, Sends, Declines, Closes, sent_by_action, replies_to, StandsStill, Step, refused, asks, comes, rests, offers, delays, sends, refuses, answers, leaves, Steps, begins, goes_on}
-use Rattle.dep_host.specs.Runs.{Follows, begins as follows_none, opens, takes, replies, sends as follows_sent, declines, closes, StaysOpen, reply_count, parts_of, sent_for, sent_of, KeepsPromise, OwesNone}
+use Rattle.dep_host.specs.Hosting.{Position, slot_at, AreShown, HostAction, Opens, Takes, Replies, Sends, Declines, Closes, sent_by_action, replies_to, HubStandsStill, HostStep, refused, asks, comes, rests, offers, delays, sends, refuses, answers, leaves, Steps, begins, goes_on}
+use Rattle.dep_host.specs.Runs.{Follows, begins as follows_none, opens, takes, replies, sends as follows_sent, declines, closes, IsClosedByNone, reply_count, parts_of, sent_for, sent_of, KeepsPromise, OwesNone}
 use Rattle.dep_host.proofs.CloseLemmas.{clean_before}
 use Rattle.dep_host.proofs.HostLemmas.{steps_join}
 use Rattle.dep_host.proofs.ReadLemmas.{open_before, open_last, replies_one, sent_one, reads_arrive}
@@ -173,7 +173,7 @@ module _ {A R K S : Type 0} (condition : A → Condition) (unread : R → Option
     owes : ℕ → List ℕ
     follows : Follows (λ n. []) actions more holds
     represents : RepresentsOwingAfter condition q.hub first (before ++ more) holds owes
-    joins : AllReport condition unread taken held → (n : ℕ) → StaysOpen n actions → replies_to n actions ++ owes n ≡ sent_of n more
+    joins : AllReport condition unread taken held → (n : ℕ) → IsClosedByNone n actions → replies_to n actions ++ owes n ≡ sent_of n more
 
   owed_still : (old new : Hub A) (w : State) (owes : ℕ → List ℕ) → SameBehind old new → ((n : ℕ) → IsOwed w (behind_at old.connections.items n) (owes n)) → (n : ℕ) → IsOwed w (behind_at new.connections.items n) (owes n)
   owed_still old new w owes behind h n = subst (λ (b : Behind). IsOwed w b (owes n)) (sym (behind n)) (h n)
@@ -194,7 +194,7 @@ module _ {A R K S : Type 0} (condition : A → Condition) (unread : R → Option
     };
   }
 
-  stood : (old new : Hub A) (first : State) (records : List Record) (holds owes : ℕ → List ℕ) → StandsStill condition old new → new.config ≡ old.config
+  stood : (old new : Hub A) (first : State) (records : List Record) (holds owes : ℕ → List ℕ) → HubStandsStill condition old new → new.config ≡ old.config
       → ((s : State) (n : ℕ) → IsOwed s (behind_at old.connections.items n) (owes n) → IsOwed s (behind_at new.connections.items n) (owes n)) → IsClean condition new
       → RepresentsOwingAfter condition old first records holds owes → RepresentsOwingAfter condition new first records holds owes
   stood old new first records holds owes still config owed clean h = record {
@@ -211,7 +211,7 @@ module _ {A R K S : Type 0} (condition : A → Condition) (unread : R → Option
     owes = m.owes;
     follows = subst (λ (l : List HostAction). Follows (λ n. []) l m.more m.holds) (sym (append-nil actions)) m.follows;
     represents = represents;
-    joins = λ all n is_open. ap (λ (l : List HostAction). replies_to n l ++ m.owes n) (append-nil actions) ∙ m.joins all n (subst (λ (l : List HostAction). StaysOpen n l) (append-nil actions) is_open);
+    joins = λ all n is_open. ap (λ (l : List HostAction). replies_to n l ++ m.owes n) (append-nil actions) ∙ m.joins all n (subst (λ (l : List HostAction). IsClosedByNone n l) (append-nil actions) is_open);
   }
 
   -- a record more
@@ -225,7 +225,7 @@ module _ {A R K S : Type 0} (condition : A → Condition) (unread : R → Option
   unreported_one : (n : ℕ) (records : List Record) (r : Record) → sent_for n r.event r.sent ≡ [] → sent_of n (records ++ r ∷ []) ≡ sent_of n records
   unreported_one n records r none = sent_one n records r ∙ (ap (λ (l : List ℕ). sent_of n records ++ l) none ∙ append-nil (sent_of n records))
 
-  step_owes : {p q : Position A R K S} {actions more : List HostAction} (first : State) (before : List Record) → AllAgree condition unread taken held p → OwesBehind p first before actions → Step condition unread taken held p q more
+  step_owes : {p q : Position A R K S} {actions more : List HostAction} (first : State) (before : List Record) → AllAgree condition unread taken held p → OwesBehind p first before actions → HostStep condition unread taken held p q more
       → IsClean condition q.hub → OwesBehind q first before (actions ++ more)
   step_owes {p = p} {q = q} {actions = actions} first before all m (refused r) clean =
       none_more p q first before actions m (moved p.hub q.hub first (before ++ m.more) m.holds m.holds m.owes r.same_store r.same_config r.behind (λ lines h. r.keeps lines m.holds h) m.represents)
@@ -423,7 +423,7 @@ module _ {A R K S : Type 0} (condition : A → Condition) (unread : R → Option
     owes = m.owes;
     follows = subst (λ (l : List HostAction). Follows (λ n. []) l m.more m.holds) e m.follows;
     represents = m.represents;
-    joins = λ all n is_open. subst (λ (l : List HostAction). replies_to n l ++ m.owes n ≡ sent_of n m.more) e (m.joins all n (subst (λ (l : List HostAction). StaysOpen n l) (sym e) is_open));
+    joins = λ all n is_open. subst (λ (l : List HostAction). replies_to n l ++ m.owes n ≡ sent_of n m.more) e (m.joins all n (subst (λ (l : List HostAction). IsClosedByNone n l) (sym e) is_open));
   }
 
   all_clean : {m q : Position A R K S} {late : List HostAction} → Steps condition unread taken held m late q → IsClean condition q.hub → IsClean condition m.hub
@@ -431,7 +431,7 @@ module _ {A R K S : Type 0} (condition : A → Condition) (unread : R → Option
   all_clean (goes_on s t) clean = all_clean s (clean_before condition unread taken held t clean)
 
   -- a step that sends a part makes what is owed shorter, and none makes it longer, but an answer
-  step_pays : {p q : Position A R K S} {actions more : List HostAction} (first : State) (before : List Record) (all : AllAgree condition unread taken held p) (m : OwesBehind p first before actions) (s : Step condition unread taken held p q more)
+  step_pays : {p q : Position A R K S} {actions more : List HostAction} (first : State) (before : List Record) (all : AllAgree condition unread taken held p) (m : OwesBehind p first before actions) (s : HostStep condition unread taken held p q more)
       (clean : IsClean condition q.hub) (n : ℕ) → reply_count n more ≡ 0 → parts_of n more + length ((step_owes first before all m s clean).owes n) ≤ length (m.owes n)
   unfolding step_owes none_more
   step_pays first before all m (refused r) clean n none = as_many (length (m.owes n))

@@ -5,7 +5,7 @@ use Rattle.std.proofs.lemmas.Bool.{cases_eq, eq-eqb, ne_eqb}
 use Rattle.dep_exchange.specs.Records.{Record, Connect, Arrive, Close}
 use Rattle.dep_hub.specs.Holding.{with_held}
 use Rattle.dep_host.specs.Hosting.{HostAction, Opens, Takes, Replies, Sends, Declines, Closes, sent_by_action, replies_to}
-use Rattle.dep_host.specs.Runs.{Follows, begins, opens, takes, replies, sends, declines, closes, read_by, read_of, arrived_by, arrived_of, StaysOpen, sent_for, sent_of}
+use Rattle.dep_host.specs.Runs.{Follows, begins, opens, takes, replies, sends, declines, closes, read_by, read_of, arrived_by, arrived_of, IsClosedByNone, sent_for, sent_of}
 use Rattle.std.proofs.lemmas.Grind.{flat_map-append}
 
 pub read_append : (n : ℕ) (xs ys : List HostAction) → read_of n (xs ++ ys) ≡ read_of n xs ++ read_of n ys
@@ -15,11 +15,11 @@ arrived_append : (n : ℕ) (xs ys : List Record) → arrived_of n (xs ++ ys) ≡
 arrived_append n [] ys = refl
 arrived_append n (r ∷ xs) ys = ap (λ l. arrived_by n r.event ++ l) (arrived_append n xs ys) ∙ sym (append_assoc (arrived_by n r.event) (arrived_of n xs) (arrived_of n ys))
 
-pub open_before : (n : ℕ) (xs ys : List HostAction) → StaysOpen n (xs ++ ys) → StaysOpen n xs
+pub open_before : (n : ℕ) (xs ys : List HostAction) → IsClosedByNone n (xs ++ ys) → IsClosedByNone n xs
 open_before n [] ys h = tt
 open_before n (d ∷ xs) ys h = (h.0, open_before n xs ys h.1)
 
-pub open_last : (n : ℕ) (xs ys : List HostAction) → StaysOpen n (xs ++ ys) → StaysOpen n ys
+pub open_last : (n : ℕ) (xs ys : List HostAction) → IsClosedByNone n (xs ++ ys) → IsClosedByNone n ys
 open_last n [] ys h = h
 open_last n (d ∷ xs) ys h = open_last n xs ys h.1
 
@@ -54,7 +54,7 @@ read_none n actions d e = read_one n actions d [] e ∙ append-nil (read_of n ac
 arrived_none : (n : ℕ) (records : List Record) (r : Record) → arrived_by n r.event ≡ [] → arrived_of n (records ++ r ∷ []) ≡ arrived_of n records
 arrived_none n records r e = arrived_one n records r [] e ∙ append-nil (arrived_of n records)
 
-pub reads_arrive : {first : ℕ → List ℕ} {actions : List HostAction} {records : List Record} {held : ℕ → List ℕ} (n : ℕ) → Follows first actions records held → StaysOpen n actions
+pub reads_arrive : {first : ℕ → List ℕ} {actions : List HostAction} {records : List Record} {held : ℕ → List ℕ} (n : ℕ) → Follows first actions records held → IsClosedByNone n actions
     → first n ++ read_of n actions ≡ arrived_of n records ++ held n
 reads_arrive {first = first} n begins h = append-nil (first n)
 reads_arrive {first = first} n (opens {actions = actions} {records = records} {held = held} at m given f) h =

@@ -6,8 +6,8 @@ use Rattle.std.specs.Io.KnownBytes.{Appends, Keeps, IsAtEnd, prepend_known}
 use Rattle.dep_types.specs.Conditions.{Condition}
 use Rattle.dep_slot.specs.declared.slot.Slot.{Slot}
 use Rattle.dep_outbox.specs.Wires.{front_of, joined_bytes, reported}
-use Rattle.dep_host.specs.Runs.{StaysOpen}
-use Rattle.dep_host.specs.Hosting.{Position, slot_at, HostAction, Opens, Takes, Replies, Sends, Declines, Closes, sent_by_action, replies_to, AreShown, Step, refused, asks, comes, rests, offers, delays, sends, refuses, answers, leaves, HasTurn, Steps, begins, goes_on}
+use Rattle.dep_host.specs.Runs.{IsClosedByNone}
+use Rattle.dep_host.specs.Hosting.{Position, slot_at, HostAction, Opens, Takes, Replies, Sends, Declines, Closes, sent_by_action, replies_to, AreShown, HostStep, refused, asks, comes, rests, offers, delays, sends, refuses, answers, leaves, GivesTurn, Steps, begins, goes_on}
 use Rattle.std.proofs.lemmas.Grind.{flat_map-append}
 
 abbrev or_else : {X : Type 0} → X → Option X → X
@@ -57,7 +57,7 @@ reports_joined None h f t u = absurd t
 reports_joined (Some x) None f t u = absurd u
 reports_joined (Some x) (Some y) f t u = tt
 
-open_append : (n : ℕ) (xs ys : List HostAction) → StaysOpen n xs → StaysOpen n ys → StaysOpen n (xs ++ ys)
+open_append : (n : ℕ) (xs ys : List HostAction) → IsClosedByNone n xs → IsClosedByNone n ys → IsClosedByNone n (xs ++ ys)
 open_append n [] ys h k = k
 open_append n (d ∷ xs) ys h k = (h.0, open_append n xs ys h.1 k)
 
@@ -74,19 +74,19 @@ module _ {A R K S : Type 0} (condition : A → Condition) (unread : R → Option
     pub below : (at : ℕ) (slot : Slot R K S) → slot_at at q.slots ≡ Some slot → slot.connection < q.hub.next
     pub apart : (a b : ℕ) (s t : Slot R K S) → slot_at a q.slots ≡ Some s → slot_at b q.slots ≡ Some t → s.connection ≡ t.connection → a ≡ b
     pub unused : (n : ℕ) → q.hub.next ≤ n → replies_to n rs ≡ []
-    pub stays : (at : ℕ) (slot : Slot R K S) → slot_at at q.slots ≡ Some slot → StaysOpen slot.connection rs
-    pub unclosed : (n : ℕ) → q.hub.next ≤ n → StaysOpen n rs
+    pub stays : (at : ℕ) (slot : Slot R K S) → slot_at at q.slots ≡ Some slot → IsClosedByNone slot.connection rs
+    pub unclosed : (n : ℕ) → q.hub.next ≤ n → IsClosedByNone n rs
 
   -- what a step leaves of a slot that it puts somewhere
   record Put (p q : Position A R K S) (rs more : List HostAction) (at : ℕ) (s : Slot R K S) : Type 0 where
     reports_it : AllReport → reported taken held s.wire ≡ Some (replies_to s.connection (rs ++ more))
     is_below : s.connection < q.hub.next
     is_apart : (j : ℕ) (t : Slot R K S) → (j ≡ at → ⊥) → slot_at j p.slots ≡ Some t → s.connection ≡ t.connection → ⊥
-    stays_open : StaysOpen s.connection (rs ++ more)
+    stays_open : IsClosedByNone s.connection (rs ++ more)
 
   -- actions that are of no connection of this number
   abbrev AreOfOthers : ℕ → List HostAction → Type 0
-  AreOfOthers n more = (replies_to n more ≡ []) × StaysOpen n more
+  AreOfOthers n more = (replies_to n more ≡ []) × IsClosedByNone n more
 
   tidy_set : (p q : Position A R K S) (rs more : List HostAction) (at : ℕ) (x : Option (Slot R K S)) → Tidy p rs → at < length p.slots → q.slots ≡ set p.slots at x
       → p.hub.next ≤ q.hub.next → ((s : Slot R K S) → x ≡ Some s → Put p q rs more at s)
@@ -126,13 +126,13 @@ module _ {A R K S : Type 0} (condition : A → Condition) (unread : R → Option
   put_there p q rs more at s t put e = subst (λ (u : Slot R K S). Put p q rs more at u) (some_same s t e) put
 
   put_kept : (p q : Position A R K S) (rs more : List HostAction) (at : ℕ) (before after : Slot R K S) → Tidy p rs → slot_at at p.slots ≡ Some before
-      → after.connection ≡ before.connection → p.hub.next ≤ q.hub.next → StaysOpen before.connection more
+      → after.connection ≡ before.connection → p.hub.next ≤ q.hub.next → IsClosedByNone before.connection more
       → (AllReport → reported taken held after.wire ≡ Some (replies_to before.connection rs ++ replies_to before.connection more)) → Put p q rs more at after
   put_kept p q rs more at before after tidy sat same later unclosing says = record {
     reports_it = λ all. says all ∙ (ap Some (sym (replies_append before.connection rs more)) ∙ ap (λ (n : ℕ). Some (replies_to n (rs ++ more))) (sym same));
     is_below = let lower = tidy.below at before sat in omega (arith, same, lower, later);
     is_apart = λ j t ne h e. ne (tidy.apart j at t before h sat (sym e ∙ same));
-    stays_open = subst (λ (n : ℕ). StaysOpen n (rs ++ more)) (sym same) (open_append before.connection rs more (tidy.stays at before sat) unclosing);
+    stays_open = subst (λ (n : ℕ). IsClosedByNone n (rs ++ more)) (sym same) (open_append before.connection rs more (tidy.stays at before sat) unclosing);
   }
 
   tidy_same : (p q : Position A R K S) (rs : List HostAction) → q.slots ≡ p.slots → q.hub.next ≡ p.hub.next → Tidy p rs → Tidy q (rs ++ [])
@@ -146,7 +146,7 @@ module _ {A R K S : Type 0} (condition : A → Condition) (unread : R → Option
   })
 
   -- a turn in which nothing was sent
-  turn_tidy : (p q : Position A R K S) (rs more : List HostAction) (at : ℕ) (before after : Slot R K S) → Tidy p rs → HasTurn condition unread taken held p q at before after
+  turn_tidy : (p q : Position A R K S) (rs more : List HostAction) (at : ℕ) (before after : Slot R K S) → Tidy p rs → GivesTurn condition unread taken held p q at before after
       → Keeps (reported taken held before.wire) (reported taken held after.wire) → ((n : ℕ) → AreOfOthers n more) → Tidy q (rs ++ more)
   turn_tidy p q rs more at before after tidy t keeps none =
       let later : p.hub.next ≤ q.hub.next = let e = t.hub.next in omega (arith, e) in
@@ -157,9 +157,9 @@ module _ {A R K S : Type 0} (condition : A → Condition) (unread : R → Option
       (λ j u ne h. none u.connection) (λ n h. none n)
 
   -- and one in which something was sent for it
-  sent_tidy : (p q : Position A R K S) (rs : List HostAction) (one : HostAction) (at : ℕ) (before after : Slot R K S) (sent : List ℕ) → Tidy p rs → HasTurn condition unread taken held p q at before after
+  sent_tidy : (p q : Position A R K S) (rs : List HostAction) (one : HostAction) (at : ℕ) (before after : Slot R K S) (sent : List ℕ) → Tidy p rs → GivesTurn condition unread taken held p q at before after
       → Appends (reported taken held before.wire) (reported taken held after.wire) sent → ((n : ℕ) → sent_by_action n one ≡ (if before.connection == n then sent else []))
-      → ((n : ℕ) → StaysOpen n (one ∷ [])) → Tidy q (rs ++ one ∷ [])
+      → ((n : ℕ) → IsClosedByNone n (one ∷ [])) → Tidy q (rs ++ one ∷ [])
   sent_tidy p q rs one at before after sent tidy t appends reported_so unclosing =
       let later : p.hub.next ≤ q.hub.next = let e = t.hub.next in omega (arith, e) in
       let here : replies_to before.connection (one ∷ []) ≡ sent = ap (λ (l : List ℕ). l ++ []) (reported_so before.connection) ∙ sent_here before.connection sent in
@@ -170,7 +170,7 @@ module _ {A R K S : Type 0} (condition : A → Condition) (unread : R → Option
       (λ j u ne h. (ap (λ (l : List ℕ). l ++ []) (reported_so u.connection) ∙ sent_elsewhere before.connection u.connection sent (λ same. ne (tidy.apart j at u before h t.sat (sym same))), unclosing u.connection))
       (λ n h. (ap (λ (l : List ℕ). l ++ []) (reported_so n) ∙ sent_elsewhere before.connection n sent (λ same. let lower = tidy.below at before t.sat in let e = t.hub.next in omega (arith, lower, h, same, e)), unclosing n))
 
-  step_tidy : {p q : Position A R K S} {rs more : List HostAction} → Tidy p rs → Step condition unread taken held p q more → Tidy q (rs ++ more)
+  step_tidy : {p q : Position A R K S} {rs more : List HostAction} → Tidy p rs → HostStep condition unread taken held p q more → Tidy q (rs ++ more)
   step_tidy {p = p} {q = q} {rs = rs} tidy (refused r) = tidy_same p q rs r.sits r.next tidy
   step_tidy {p = p} {q = q} {rs = rs} tidy (asks r) = tidy_same p q rs r.sits r.hub.next tidy
   step_tidy {p = p} {q = q} {rs = rs} tidy (comes {at = at} {slot = slot} r) =
@@ -224,7 +224,7 @@ module _ {A R K S : Type 0} (condition : A → Condition) (unread : R → Option
 
   -- who is somewhere was never closed, and no other is there under its number
   pub slots_stay : (p q : Position A R K S) (rs : List HostAction) → ((at : ℕ) → slot_at at p.slots ≡ None)
-      → Steps condition unread taken held p rs q → (at : ℕ) (slot : Slot R K S) → slot_at at q.slots ≡ Some slot → StaysOpen slot.connection rs
+      → Steps condition unread taken held p rs q → (at : ℕ) (slot : Slot R K S) → slot_at at q.slots ≡ Some slot → IsClosedByNone slot.connection rs
   slots_stay p q rs empty s at slot h = (steps_tidy empty s).stays at slot h
 
   pub slots_apart : (p q : Position A R K S) (rs : List HostAction) → ((at : ℕ) → slot_at at p.slots ≡ None)

@@ -11,11 +11,11 @@ use Rattle.dep_hub.specs.RepresentsOwing.{KeepsBack}
 use Rattle.dep_hub.specs.declared.hub.Hub.{Hub}
 use Rattle.dep_exchange.specs.declared.arrived.Arrived.{Arrived}
 use Rattle.dep_host.proofs.CloseLemmas.{clean_before}
-use Rattle.dep_host.specs.Hosting.{Position, HostAction, Step, refused, asks, comes, rests, offers, delays, sends, refuses, answers, leaves, StandsStill, Steps, begins, goes_on}
+use Rattle.dep_host.specs.Hosting.{Position, HostAction, HostStep, refused, asks, comes, rests, offers, delays, sends, refuses, answers, leaves, HubStandsStill, Steps, begins, goes_on}
 use Rattle.dep_host.specs.Runs.{Follows, begins as follows_none, opens, takes, replies, sends as follows_sent, declines, closes, RepresentsBehind}
 
 -- a hub stands where it stood once an item was kept back
-pub kept_back_still : {A : Type 0} (condition : A → Condition) (old new : Hub A) {taken takes : Option (List ℕ)} {failures failures_after : ℕ} (number : ℕ) → KeepsBack condition taken takes failures failures_after old new number → StandsStill condition old new
+pub kept_back_still : {A : Type 0} (condition : A → Condition) (old new : Hub A) {taken takes : Option (List ℕ)} {failures failures_after : ℕ} (number : ℕ) → KeepsBack condition taken takes failures failures_after old new number → HubStandsStill condition old new
 kept_back_still {A = A} condition old new number k = λ clean w kept h. record {
   state = subst (λ (s : A). Represents (condition s) w.state) (sym k.same_store) h.state;
   kept = λ m. subst (λ (c : Config). IsHeldAs c.max_upload (w.line m) (kept m) (intake_of new.connections.items m)) (sym k.same_config)
@@ -49,7 +49,7 @@ module _ {A R K S : Type 0} (condition : A → Condition) (unread : R → Option
   }
 
   -- it stands where it stood
-  stood_still : (old new : Hub A) (first : State) (records : List Record) (holds : ℕ → List ℕ) → StandsStill condition old new → new.config ≡ old.config → IsClean condition new
+  stood_still : (old new : Hub A) (first : State) (records : List Record) (holds : ℕ → List ℕ) → HubStandsStill condition old new → new.config ≡ old.config → IsClean condition new
       → RepresentsHoldingAfter condition old first records holds → RepresentsHoldingAfter condition new first records holds
   stood_still old new first records holds still config clean h = record {
     world = h.world;
@@ -76,7 +76,7 @@ module _ {A R K S : Type 0} (condition : A → Condition) (unread : R → Option
   }
 
   step_run : {p q : Position A R K S} {actions more : List HostAction} (first : State) (records : List Record) (holds : ℕ → List ℕ)
-      → RepresentsBehind condition p.hub first records holds actions → Step condition unread taken held p q more → IsClean condition q.hub
+      → RepresentsBehind condition p.hub first records holds actions → HostStep condition unread taken held p q more → IsClean condition q.hub
       → RepresentsBehind condition q.hub first records holds (actions ++ more)
   step_run {p = p} {q = q} {actions = actions} first records holds m (refused r) clean =
       behind_still p.hub q.hub first records holds actions m (moved p.hub q.hub first (records ++ m.more) m.holds m.holds r.same_store r.same_config (λ lines h. r.keeps lines m.holds h) m.represents)

@@ -18,7 +18,7 @@ use Rattle.dep_slot.specs.declared.connection_state.Phase.TheVariants.{Open, Ans
 use Rattle.dep_slot.specs.declared.slot.Slot.{Slot}
 use Rattle.dep_slot.specs.ConnectionStates.{is_ended, is_sending, SendsStill}
 use Rattle.dep_slot.specs.Slots.{SameBehind, phase_answered, phase_sent}
-use Rattle.dep_host.specs.Hosting.{Position, slot_at, HostAction, Step, refused, asks, comes, rests, offers, delays, sends, refuses, answers, leaves, HasTurn, Steps, begins, goes_on}
+use Rattle.dep_host.specs.Hosting.{Position, slot_at, HostAction, HostStep, refused, asks, comes, rests, offers, delays, sends, refuses, answers, leaves, GivesTurn, Steps, begins, goes_on}
 use Rattle.dep_host.proofs.ReportLemmas.{Tidy, steps_tidy, slot_set, some_same, no_some}
 
 -- by what is behind its last reply and how far it is: a content is sent where one is behind it, unless it is over, and none was broken off of who is read
@@ -146,7 +146,7 @@ module _ {A R K S : Type 0} (condition : A → Condition) (unread : R → Option
   ]
 
   -- it has its turn
-  all_turned : {p q : Position A R K S} {at : ℕ} {before after : Slot R K S} {actions : List HostAction} → Tidy condition unread taken held p actions → HasTurn condition unread taken held p q at before after
+  all_turned : {p q : Position A R K S} {at : ℕ} {before after : Slot R K S} {actions : List HostAction} → Tidy condition unread taken held p actions → GivesTurn condition unread taken held p q at before after
       → Agrees (behind_at q.hub.connections.items before.connection) after.state.phase
       → ((n : ℕ) → (n ≡ before.connection → ⊥) → behind_at q.hub.connections.items n ≡ behind_at p.hub.connections.items n) → AllAgree p → AllAgree q
   all_turned {p = p} {q = q} {at = at} {before = before} {after = after} tidy t agrees others all = all_set p q at (Some after) t.there t.sits
@@ -154,7 +154,7 @@ module _ {A R K S : Type 0} (condition : A → Condition) (unread : R → Option
       (subst (λ (n : ℕ). Agrees (behind_at q.hub.connections.items n) after.state.phase) (sym t.client.connection) agrees))
       (λ j u ne h. others u.connection (λ same. ne (tidy.apart j at u before h t.sat same))) all
 
-  step_agrees : {p q : Position A R K S} {actions more : List HostAction} → Tidy condition unread taken held p actions → Step condition unread taken held p q more → AllAgree p → AllAgree q
+  step_agrees : {p q : Position A R K S} {actions more : List HostAction} → Tidy condition unread taken held p actions → HostStep condition unread taken held p q more → AllAgree p → AllAgree q
   step_agrees {p = p} {q = q} tidy (refused r) all = all_same p q r.sits r.behind all
   step_agrees {p = p} {q = q} tidy (asks r) all = λ at slot sits.
       agrees_asked condition p.hub q.hub slot.connection slot.state.phase r.behind (all at slot (subst (λ (l : List (Option (Slot R K S))). slot_at at l ≡ Some slot) r.sits sits))

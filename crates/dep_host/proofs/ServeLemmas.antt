@@ -23,7 +23,7 @@ use Rattle.dep_slot.specs.declared.connection_state.Phase.TheVariants.{Open, Ove
 use Rattle.dep_slot.specs.declared.connection_state.NextAction.{NextAction}
 use Rattle.dep_slot.specs.declared.connection_state.NextAction.TheVariants as to
 use Rattle.dep_slot.specs.Slots.{IsPutOff, IsUnknown, MayRest, ActsOnce, TakesTurn, slot_action, phase_sent}
-use Rattle.dep_host.specs.Hosting.{Position, slot_at, MayGo, farewell, closings_of, HostAction, Takes, Replies, Sends, Declines, Closes, answers_at, pieces_at, sendings_at, sendings_in, unfinished_of, AreDoneAt, HasTurn, Goes, rests, offers, delays, sends, refuses, answers, leaves, Steps, begins, goes_on, IsOnce, IsLost, IsServed, IsServedAt, turn_action, Serves}
+use Rattle.dep_host.specs.Hosting.{Position, slot_at, MayGo, farewell, closings_of, HostAction, Takes, Replies, Sends, Declines, Closes, answers_at, pieces_at, sendings_at, sendings_in, unfinished_of, AreDoneAt, GivesTurn, Goes, rests, offers, delays, sends, refuses, answers, leaves, Steps, begins, goes_on, IsOnce, IsLost, IsServed, IsServedAt, turn_action, ServesSlot}
 use Rattle.dep_slot.specs.Notes.{Note, LetGo, GrowsWhereShown}
 use Rattle.dep_host.proofs.HostLemmas.{grows_same, slot_read, steps_join, unchanged, woken}
 use Rattle.dep_host.proofs.ActionLemmas.{answers_append, pieces_append, sendings_in_append, counted_by, sendings_after, in_time_append, noted_on, one_at_most, one_here, one_sent, none_sent, none_elsewhere}
@@ -39,7 +39,7 @@ set_again {X = X} (z ∷ l) (suc at) x y = ap (λ (k : List X). z ∷ k) (set_ag
 module _ {A R K S : Type 0} (condition : A → Condition) (unread : R → Option (List ℕ)) (taken : K → Option (List ℕ)) (held : S → Option (List ℕ)) (size : S → ℕ) (causes : Causes R K S) where
   -- nothing was done at a place
   pub served_none : (p q : Position A R K S) (at : ℕ) (time : Time) (is_full may_send : Bool) (reported reports : Option (List Note)) (x : Option (Slot R K S)) → reports ≡ reported → q.hub ≡ p.hub → q.limits ≡ p.limits → q.shut ≡ p.shut → q.slots ≡ set p.slots at x → at < length p.slots → x ≡ get_or p.slots at x → x ≡ None
-      → Serves condition unread taken held size causes p q at time is_full may_send false reported reports
+      → ServesSlot condition unread taken held size causes p q at time is_full may_send false reported reports
   served_none p q at time is_full may_send reported reports x same hub limits shut slots there read none = record {
     actions = [];
     steps = goes_on begins (unchanged condition unread taken held p q at x hub limits shut slots there read);
@@ -121,7 +121,7 @@ module _ {A R K S : Type 0} (condition : A → Condition) (unread : R → Option
   }
 
   -- a connection had its turn
-  took_turn : (p q : Position A R K S) (at : ℕ) (time : Time) (is_full may_send : Bool) (before after : Slot R K S) → HasTurn condition unread taken held p q at before after
+  took_turn : (p q : Position A R K S) (at : ℕ) (time : Time) (is_full may_send : Bool) (before after : Slot R K S) → GivesTurn condition unread taken held p q at before after
       → before.state.phase ≡ phase_begun before.state.phase (is_some p.shut) → ActsOnce condition unread taken held size p.hub q.hub before after time.moment is_full (is_some p.shut) may_send → Turned p q at time is_full may_send before after
   took_turn p q at time is_full may_send before after t e (inl (r, may)) =
       unsending p q at time is_full may_send before after [] (goes_on begins (rests t r)) refl (λ place. refl) (λ due now. let r = rested_unsent p before after is_full may_send due may in let bad : true ≡ false = sym now ∙ r in cc)
@@ -259,7 +259,7 @@ module _ {A R K S : Type 0} (condition : A → Condition) (unread : R → Option
       → mid.state.is_writable ≡ before.state.is_writable → is_shut ≡ is_some p.shut
       → mid.state.is_awaited ≡ is_sending before.state.phase && is_awaited → is_awaited_at p.hub.connections.items before.connection ≡ is_awaited
       → (has_sent ≡ true → (may_send ≡ true) × (slot_action size mid ≡ to.Send)) → (has_sent ≡ false → may_send ≡ true → slot_action size mid ≡ to.Send → ⊥)
-      → TakesTurn condition unread taken held size causes p.hub q.hub mid after time.moment is_full is_shut may_send → Serves condition unread taken held size causes p q at time is_full may_send has_sent reported_old reported_new
+      → TakesTurn condition unread taken held size causes p.hub q.hub mid after time.moment is_full is_shut may_send → ServesSlot condition unread taken held size causes p q at time is_full may_send has_sent reported_old reported_new
   served p q at time is_full is_shut may_send has_sent is_awaited reported_old reported_new before mid after quiet there sat sits limits shut same opens ended count phase readable writable reported awaited asked sends_so sends_not t =
       let m : Position A R K S = record p { slots = set p.slots at (Some mid) } in
       let begun : slot_at at m.slots ≡ Some mid = get_or-set_same p.slots at (Some mid) None there in
@@ -322,8 +322,8 @@ module _ {A R K S : Type 0} (condition : A → Condition) (unread : R → Option
       }
 
   -- and was closed after it
-  pub then_closed : (p q r : Position A R K S) (at : ℕ) (time : Time) (is_full may_send has_sent : Bool) (reported so_far reports : Option (List Note)) (reason : Closing) (slot : Slot R K S) → Serves condition unread taken held size causes p q at time is_full may_send has_sent reported so_far → Goes condition unread taken held q r at time.second reason slot
-      → GrowsWhereShown so_far reports (LetGo slot.connection reason ∷ []) → Serves condition unread taken held size causes p r at time is_full may_send has_sent reported reports
+  pub then_closed : (p q r : Position A R K S) (at : ℕ) (time : Time) (is_full may_send has_sent : Bool) (reported so_far reports : Option (List Note)) (reason : Closing) (slot : Slot R K S) → ServesSlot condition unread taken held size causes p q at time is_full may_send has_sent reported so_far → Goes condition unread taken held q r at time.second reason slot
+      → GrowsWhereShown so_far reports (LetGo slot.connection reason ∷ []) → ServesSlot condition unread taken held size causes p r at time is_full may_send has_sent reported reports
   then_closed p q r at time is_full may_send has_sent reported so_far reports reason slot s g noted =
       let more : List HostAction = Closes at slot.connection time.second reason ∷ [] in
       record {
@@ -344,6 +344,6 @@ module _ {A R K S : Type 0} (condition : A → Condition) (unread : R → Option
       }
 
   pub closes_served : (p q r : Position A R K S) (at : ℕ) (time : Time) (is_full may_send has_sent : Bool) (reported so_far reports : Option (List Note)) (reason : Closing) (x : Option (Slot R K S)) → IfSome x (Goes condition unread taken held q r at time.second reason) → MayGo q time.second reason x
-      → Serves condition unread taken held size causes p q at time is_full may_send has_sent reported so_far → GrowsWhereShown so_far reports (farewell reason x) → Serves condition unread taken held size causes p r at time is_full may_send has_sent reported reports
+      → ServesSlot condition unread taken held size causes p q at time is_full may_send has_sent reported so_far → GrowsWhereShown so_far reports (farewell reason x) → ServesSlot condition unread taken held size causes p r at time is_full may_send has_sent reported reports
   closes_served p q r at time is_full may_send has_sent reported so_far reports reason None g d s noted = absurd d
   closes_served p q r at time is_full may_send has_sent reported so_far reports reason (Some slot) g d s noted = then_closed p q r at time is_full may_send has_sent reported so_far reports reason slot s g noted

@@ -5,7 +5,7 @@ use Rattle.dep_hub.specs.Representing.{IsClean}
 use Rattle.dep_host.specs.declared.ending.Cause.TheVariants.{Store}
 use Rattle.dep_host.specs.declared.ending.Shut.{Shut}
 use Rattle.dep_host.specs.Meeting.{IsShutBy}
-use Rattle.dep_host.specs.Hosting.{Position, HostAction, AreOutgoing, IsRightlyReported, Step, refused, asks, comes, rests, offers, delays, sends, refuses, answers, leaves, Steps, begins, goes_on}
+use Rattle.dep_host.specs.Hosting.{Position, HostAction, AreOutgoing, IsRightlyReported, HostStep, refused, asks, comes, rests, offers, delays, sends, refuses, answers, leaves, Steps, begins, goes_on}
 use Rattle.dep_host.proofs.CloseLemmas.{clean_before}
 
 outgoing_append : (xs ys : List HostAction) → AreOutgoing xs → AreOutgoing ys → AreOutgoing (xs ++ ys)
@@ -30,7 +30,7 @@ reported_by_store X None shut h = absurd shut
 reported_by_store X (Some shut) is h = h is
 
 module _ {A R K S : Type 0} (condition : A → Condition) (unread : R → Option (List ℕ)) (taken : K → Option (List ℕ)) (held : S → Option (List ℕ)) where
-  step_outgoing : {p q : Position A R K S} {more : List HostAction} (since : Shut) → Step condition unread taken held p q more → p.shut ≡ Some since → AreOutgoing more × (q.shut ≡ Some since)
+  step_outgoing : {p q : Position A R K S} {more : List HostAction} (since : Shut) → HostStep condition unread taken held p q more → p.shut ≡ Some since → AreOutgoing more × (q.shut ≡ Some since)
   step_outgoing since (refused r) reported = (tt, r.same_shut ∙ reported)
   step_outgoing {p = p} {q = q} since (asks r) reported = elim r.reported [
     | inl same ↦ (tt, same ∙ reported)
@@ -56,7 +56,7 @@ module _ {A R K S : Type 0} (condition : A → Condition) (unread : R → Option
   rightly_kept : (p q : Position A R K S) → q.shut ≡ p.shut → (IsClean condition q.hub → IsClean condition p.hub) → IsRightlyReported condition p → IsRightlyReported condition q
   rightly_kept p q same before h = subst (λ (o : Option Shut). IfSome o (λ shut. shut.cause ≡ Store → IsClean condition q.hub → ⊥)) (sym same) (rightly_before p.shut before h)
 
-  step_rightly : {p q : Position A R K S} {more : List HostAction} → Step condition unread taken held p q more → IsRightlyReported condition p → IsRightlyReported condition q
+  step_rightly : {p q : Position A R K S} {more : List HostAction} → HostStep condition unread taken held p q more → IsRightlyReported condition p → IsRightlyReported condition q
   step_rightly {p = p} {q = q} (refused r) h = rightly_kept p q r.same_shut (clean_before condition unread taken held (refused r)) h
   step_rightly {p = p} {q = q} (asks r) h = elim r.reported [
     | inl same ↦ rightly_kept p q same r.hub.clean h

@@ -12,7 +12,7 @@ use Rattle.dep_slot.specs.declared.slot.Time.{Time}
 use Rattle.dep_slot.specs.declared.log.Closing.TheVariants.{Large}
 use Rattle.dep_slot.specs.declared.connection_state.NextAction.{NextAction}
 use Rattle.dep_slot.specs.declared.connection_state.NextAction.TheVariants as to
-use Rattle.dep_host.specs.Hosting.{Position, slot_at, closings_of, HostAction, Closes, answers_at, pieces_at, sendings_at, sendings_in, unfinished_of, unfinished_in, AreDoneAt, leaves, Steps, begins, goes_on, IsClosed, IsServed, IsServedAt, IsTurned, WasAwaited, Serves, GoesRound, EvictsLargest}
+use Rattle.dep_host.specs.Hosting.{Position, slot_at, closings_of, HostAction, Closes, answers_at, pieces_at, sendings_at, sendings_in, unfinished_of, unfinished_in, AreDoneAt, leaves, Steps, begins, goes_on, IsClosed, IsServed, IsServedAt, IsTurned, WasAwaited, ServesSlot, GoesRound, EvictsLargest}
 use Rattle.dep_slot.specs.Notes.{Note, GrowsWhereShown}
 use Rattle.dep_host.specs.declared.share.Share.{Share}
 use Rattle.dep_host.specs.Sharing.{IsNextPlace, counted, is_turn, most_sent}
@@ -64,7 +64,7 @@ module _ {A R K S : Type 0} (condition : A → Condition) (unread : R → Option
       subst (λ (b : Bool). IsServedAt condition unread taken held size causes p r is_full b actions place (slot_at place p.slots)) (sym (ap (λ (n : ℕ). is_turn n after.next place) first ∙ turn)) h
 
   pub round_goes_on : (p q r : Position A R K S) (at next : ℕ) (time : Time) (is_full has_sent : Bool) (share after : Share) (reported so_far reports : Option (List Note)) → RoundSoFar p q at time is_full share reported so_far
-      → Serves condition unread taken held size causes q r at time is_full (is_turn share.first share.next at) has_sent so_far reports → after ≡ counted share at has_sent
+      → ServesSlot condition unread taken held size causes q r at time is_full (is_turn share.first share.next at) has_sent so_far reports → after ≡ counted share at has_sent
       → ((place : ℕ) → (place ≡ at → ⊥) → slot_at place r.slots ≡ slot_at place q.slots) → next ≡ at + 1 → q.shut ≡ p.shut → RoundSoFar p r next time is_full after reported reports
   round_goes_on p q r at next time is_full has_sent share after reported so_far reports s t is same e shut =
       let on = shares_on share at (sendings_in s.actions) (sendings_in t.actions) has_sent s.shares t.allowed t.counted in

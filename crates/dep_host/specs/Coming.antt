@@ -29,13 +29,13 @@ seconds_of End = []
 
 -- what came when it was asked what comes, the place that was offered then, and whether the host was told
 -- as one that can go on at once
-pub record Call (R K S : Type 0) : Type 0 where
+pub record PollCall (R K S : Type 0) : Type 0 where
   pub offer : Option ℕ
   pub is_busy : Bool
   pub event : Event R K S
 
 -- the seconds of the rounds among what came, and of where it was told to stop
-abbrev pub seconds_in : {R K S : Type 0} → List (Call R K S) → List ℕ
+abbrev pub seconds_in : {R K S : Type 0} → List (PollCall R K S) → List ℕ
 seconds_in calls = flat_map (λ c. seconds_of c.event) calls
 
 -- a number for those addresses that one client may have: an IPv4 address, or all IPv6 addresses of

@@ -26,7 +26,7 @@ use Rattle.dep_slot.specs.declared.log.Closing.TheVariants as ends
 use Rattle.dep_slot.specs.ConnectionStates.{StaysOrIsOver, closing, next_action, is_ended, is_held_back, phase_begun}
 use Rattle.dep_slot.specs.Causes.{Causes, HasCauses}
 use Rattle.dep_slot.specs.Notes.{Note, LetGo, GrowsWhereShown}
-use Rattle.dep_slot.specs.Slots.{HubStays, IsPutOff, SameBehind, SameClient, SendsOn, slot_action, phase_sent, IsUnknown, Rests, Offers, Refuses, Answers, Delays, Sends as SendsContent}
+use Rattle.dep_slot.specs.Slots.{HubStays, IsPutOff, SameBehind, SameClient, OwesLess, slot_action, phase_sent, IsUnknown, SlotRests, OffersPiece, Refuses, AnswersAtSlot, Delays, Sends as SendsContent}
 use Rattle.dep_host.specs.Sharing.{IsNextPlace, is_turn, most_sent}
 
 -- the hub, who is where, what bounds them, and since when it is shut
@@ -192,8 +192,8 @@ AreOutgoing [] = Unit {0}
 AreOutgoing (d ∷ actions) = IsOutgoing d × AreOutgoing actions
 
 -- the hub stands at each world at which it stood, while its store is open
-abbrev pub StandsStill : {A : Type 0} → (A → Condition) → (old new : Hub A) → Type 0
-StandsStill condition old new = IsClean condition new → (w : World) → (kept : ℕ → List ℕ)
+abbrev pub HubStandsStill : {A : Type 0} → (A → Condition) → (old new : Hub A) → Type 0
+HubStandsStill condition old new = IsClean condition new → (w : World) → (kept : ℕ → List ℕ)
     → RepresentsHolding condition old w kept → RepresentsHolding condition new w kept
 
 -- more bytes of unfinished requests are kept than may be, and for no connection more than this one,
@@ -224,7 +224,7 @@ module _ {A R K S : Type 0} (condition : A → Condition) (unread : R → Option
     (taken : K → Option (List ℕ)) (held : S → Option (List ℕ)) where
   -- a connection is opened, over a wire that took nothing, and is where nobody sat; not once it is
   -- shut
-  pub record Comes (p q : Position A R K S) (at : ℕ) (slot : Slot R K S) : Type 0 where
+  pub record OpensSlot (p q : Position A R K S) (at : ℕ) (slot : Slot R K S) : Type 0 where
     pub there : at < length p.slots
     pub free : slot_at at p.slots ≡ None
     pub sits : q.slots ≡ set p.slots at (Some slot)
@@ -259,13 +259,13 @@ module _ {A R K S : Type 0} (condition : A → Condition) (unread : R → Option
   pub record Asks (p q : Position A R K S) : Type 0 where
     pub sits : q.slots ≡ p.slots
     pub hub : HubStays condition p.hub q.hub
-    pub represents : StandsStill condition p.hub q.hub
+    pub represents : HubStandsStill condition p.hub q.hub
     pub behind : SameBehind p.hub q.hub ⊎ RestsAhead condition p.hub q.hub
     pub same_limits : q.limits ≡ p.limits
     pub reported : (q.shut ≡ p.shut) ⊎ (IsNone p.shut × IsRightlyReported condition q)
 
   -- a connection has its turn, and no other place changes
-  pub record HasTurn (p q : Position A R K S) (at : ℕ) (before after : Slot R K S) : Type 0 where
+  pub record GivesTurn (p q : Position A R K S) (at : ℕ) (before after : Slot R K S) : Type 0 where
     pub there : at < length p.slots
     pub sat : slot_at at p.slots ≡ Some before
     pub sits : q.slots ≡ set p.slots at (Some after)
@@ -293,37 +293,37 @@ module _ {A R K S : Type 0} (condition : A → Condition) (unread : R → Option
     pub same_shut : q.shut ≡ p.shut
 
   -- one step of a host, and what it does in it
-  pub data Step (p q : Position A R K S) : List HostAction → Type 0 where
-    refused : Refused p q → Step p q []
-    asks : Asks p q → Step p q []
-    comes : {at : ℕ} {slot : Slot R K S} → Comes p q at slot
-        → Step p q (Opens at slot.connection (unread slot.source) ∷ [])
-    rests : {at : ℕ} {before after : Slot R K S} → HasTurn p q at before after
-        → Rests condition unread taken held p.hub q.hub before after → Step p q []
-    offers : {at : ℕ} {is_full : Bool} {before after : Slot R K S} → HasTurn p q at before after
-        → (o : Offers condition unread taken held p.hub q.hub before after is_full (is_some p.shut))
-        → Step p q (Takes at before.connection o.piece ∷ [])
-    delays : {at : ℕ} {before after : Slot R K S} → HasTurn p q at before after
-        → Delays condition unread taken held p.hub q.hub before after → Step p q []
-    sends : {at : ℕ} {before after : Slot R K S} → HasTurn p q at before after
+  pub data HostStep (p q : Position A R K S) : List HostAction → Type 0 where
+    refused : Refused p q → HostStep p q []
+    asks : Asks p q → HostStep p q []
+    comes : {at : ℕ} {slot : Slot R K S} → OpensSlot p q at slot
+        → HostStep p q (Opens at slot.connection (unread slot.source) ∷ [])
+    rests : {at : ℕ} {before after : Slot R K S} → GivesTurn p q at before after
+        → SlotRests condition unread taken held p.hub q.hub before after → HostStep p q []
+    offers : {at : ℕ} {is_full : Bool} {before after : Slot R K S} → GivesTurn p q at before after
+        → (o : OffersPiece condition unread taken held p.hub q.hub before after is_full (is_some p.shut))
+        → HostStep p q (Takes at before.connection o.piece ∷ [])
+    delays : {at : ℕ} {before after : Slot R K S} → GivesTurn p q at before after
+        → Delays condition unread taken held p.hub q.hub before after → HostStep p q []
+    sends : {at : ℕ} {before after : Slot R K S} → GivesTurn p q at before after
         → (s : SendsContent condition unread taken held p.hub q.hub before after)
-        → Step p q (Sends at before.connection s.sends.sent s.answer ∷ [])
+        → HostStep p q (Sends at before.connection s.sends.sent s.answer ∷ [])
     refuses : {at moment : ℕ} {is_full : Bool} {before after : Slot R K S}
-        → HasTurn p q at before after
+        → GivesTurn p q at before after
         → (r : Refuses condition unread taken held p.hub q.hub before after moment is_full
         (is_some p.shut))
-        → Step p q (Declines at before.connection r.piece moment r.answers.sent ∷ [])
-    answers : {at moment : ℕ} {before after : Slot R K S} → HasTurn p q at before after
-        → (a : Answers condition unread taken held p.hub q.hub before after moment)
-        → Step p q (Replies at before.connection moment a.now a.answers.sent ∷ [])
+        → HostStep p q (Declines at before.connection r.piece moment r.answers.sent ∷ [])
+    answers : {at moment : ℕ} {before after : Slot R K S} → GivesTurn p q at before after
+        → (a : AnswersAtSlot condition unread taken held p.hub q.hub before after moment)
+        → HostStep p q (Replies at before.connection moment a.now a.answers.sent ∷ [])
     leaves : {at second : ℕ} {reason : Closing} {slot : Slot R K S} → Goes p q at second reason slot
-        → Step p q (Closes at slot.connection second reason ∷ [])
+        → HostStep p q (Closes at slot.connection second reason ∷ [])
 
   -- one step after another, and all that the host does in them
   pub data Steps (first : Position A R K S) : List HostAction → Position A R K S → Type 0 where
     begins : Steps first [] first
     goes_on : {actions more : List HostAction} {p q : Position A R K S} → Steps first actions p
-        → Step p q more → Steps first (actions ++ more) q
+        → HostStep p q more → Steps first (actions ++ more) q
 
   -- it goes from one position to another by some actions
   abbrev pub LeadsTo : Position A R K S → Position A R K S → Type 0
@@ -405,7 +405,7 @@ module _ {A R K S : Type 0} (condition : A → Condition) (unread : R → Option
   -- was once its turn began, or over.
   abbrev pub IsServed : (p q : Position A R K S) → (actions : List HostAction) → (is_full may_send : Bool)
       → (before after : Slot R K S) → (answered read : ℕ) → (sent : List SentOn) → NextAction → Type 0
-  IsServed p q actions is_full may_send before after answered read sent to.Flush = SendsOn size before after
+  IsServed p q actions is_full may_send before after answered read sent to.Flush = OwesLess size before after
       × StaysOrIsOver (phase_begun before.state.phase (is_some p.shut)) after.state.phase
   IsServed p q actions is_full may_send before after answered read sent to.Answer = (answered ≡ 1)
       ⊎ (IsLost p q actions before.connection ⊎ IsKeptBack p q actions before after)
@@ -448,7 +448,7 @@ module _ {A R K S : Type 0} (condition : A → Condition) (unread : R → Option
 
   -- one place has its turn, where too many bytes of unfinished requests are kept or not; a content was sent on,
   -- which may be, or not
-  pub record Serves (p q : Position A R K S) (at : ℕ) (time : Time) (is_full may_send has_sent : Bool)
+  pub record ServesSlot (p q : Position A R K S) (at : ℕ) (time : Time) (is_full may_send has_sent : Bool)
       (reported reports : Option (List Note)) : Type 0 where
     pub actions : List HostAction
     pub steps : Steps condition unread taken held p actions q
@@ -496,9 +496,9 @@ HasTime second limits None = Unit {0}
 HasTime second limits (Some slot) = closing slot.state second limits ≡ None
 
 -- who is at a place has nothing to do before its socket is ready or its time is up
-abbrev pub IsWaiting : {R K S : Type 0} → (S → ℕ) → Option (Slot R K S) → Type 0
-IsWaiting size None = Unit {0}
-IsWaiting size (Some slot) = slot_action size slot ≡ to.Wait
+abbrev pub HasNothingToDo : {R K S : Type 0} → (S → ℕ) → Option (Slot R K S) → Type 0
+HasNothingToDo size None = Unit {0}
+HasNothingToDo size (Some slot) = slot_action size slot ≡ to.Wait
 
 -- a further connection can be seated at a place
 abbrev pub IsVacant : {A R K S : Type 0} → Host A R K S → ℕ → Type 0
@@ -507,7 +507,7 @@ IsVacant host at = (at < length host.slots.items) × (slot_at at host.slots.item
 
 -- what bounds a host, since when it is shut, how many places it has and from which contents are sent on next is as
 -- it was
-pub record Stays {A R K S : Type 0} (old new : Host A R K S) : Type 0 where
+pub record HostStays {A R K S : Type 0} (old new : Host A R K S) : Type 0 where
   pub places : length new.slots.items ≡ length old.slots.items
   pub limits : new.limits ≡ old.limits
   pub shut : new.shut ≡ old.shut
@@ -534,4 +534,4 @@ module _ {A R K S : Type 0} (condition : A → Condition) (unread : R → Option
     pub gone : slot_at at q.slots.items ≡ None
     pub others : (place : ℕ) → (place ≡ at → ⊥)
         → slot_at place q.slots.items ≡ slot_at place p.slots.items
-    pub stays : Stays p q
+    pub stays : HostStays p q

@@ -19,13 +19,13 @@ use Rattle.dep_slot.specs.declared.slot.Time.{Time}
 use Rattle.dep_slot.specs.Causes.{Causes}
 use Rattle.dep_slot.specs.Notes.{Note}
 use Rattle.dep_host.specs.Sharing.{is_turn}
-use Rattle.dep_host.specs.Hosting.{Position, HostAction, GoesRound, Step, Steps, AreShown, AreOutgoing, IsEmpty, WasAwaited, slot_at, replies_to, sendings_at}
-use Rattle.dep_host.specs.Runs.{RepresentsBehind, KeepsPromise, OwesNone, Follows, StaysOpen, read_of, arrived_of, parts_of, reply_count}
+use Rattle.dep_host.specs.Hosting.{Position, HostAction, GoesRound, HostStep, Steps, AreShown, AreOutgoing, IsEmpty, WasAwaited, slot_at, replies_to, sendings_at}
+use Rattle.dep_host.specs.Runs.{RepresentsBehind, KeepsPromise, OwesNone, Follows, IsClosedByNone, read_of, arrived_of, parts_of, reply_count}
 
 -- what was read of a connection that stays open has arrived, but for what is held
 abbrev pub ReadsArrive : Type 0
 ReadsArrive = (first held : ℕ → List ℕ) (actions : List HostAction) (records : List Record) (number : ℕ)
-    → Follows first actions records held → StaysOpen number actions
+    → Follows first actions records held → IsClosedByNone number actions
     → first number ++ read_of number actions ≡ arrived_of number records ++ held number
 
 module _ {A R K S : Type 0} (condition : A → Condition) (unread : R → Option (List ℕ))
@@ -57,7 +57,7 @@ module _ {A R K S : Type 0} (condition : A → Condition) (unread : R → Option
   SitsOpen = (p q : Position A R K S) (actions : List HostAction) → IsEmpty p
       → Steps condition unread taken held p actions q
       → (at : ℕ) (slot : Slot R K S) → slot_at at q.slots ≡ Some slot
-      → StaysOpen slot.connection actions
+      → IsClosedByNone slot.connection actions
 
   -- a content that is still to be sent to who is at a place is being sent to it, unless it is over
   abbrev pub SendsContents : Type 0
@@ -92,7 +92,7 @@ module _ {A R K S : Type 0} (condition : A → Condition) (unread : R → Option
       : List HostAction → Position A R K S → Type 0 where
     waits_first : StepsAwaiting waiting files first [] first
     waits_on : {actions more : List HostAction} {p q : Position A R K S}
-        → StepsAwaiting waiting files first actions p → Step condition unread taken held p q more
+        → StepsAwaiting waiting files first actions p → HostStep condition unread taken held p q more
         → behind_at q.hub.connections.items waiting ≡ Waits (Takes files)
         → StepsAwaiting waiting files first (actions ++ more) q
 

@@ -27,10 +27,10 @@ use Rattle.dep_host.specs.declared.events.Event.{Event}
 use Rattle.dep_host.specs.declared.events.Event.TheVariants as came
 use Rattle.dep_host.specs.declared.serving.Ended.{Ended}
 use Rattle.dep_host.specs.declared.serving.Ended.TheVariants as ended
-use Rattle.dep_host.specs.Coming.{Call, origin, slots_from, seconds_in}
+use Rattle.dep_host.specs.Coming.{PollCall, origin, slots_from, seconds_in}
 use Rattle.dep_slot.specs.Causes.{Causes}
 use Rattle.dep_slot.specs.Slots.{woken_slot}
-use Rattle.dep_host.specs.Hosting.{Comes, HostAction, Opens, GoesRound, HasTime, IsEmpty, IsVacant, IsWaiting, Refused, Stays, Steps, position, slot_at}
+use Rattle.dep_host.specs.Hosting.{OpensSlot, HostAction, Opens, GoesRound, HasTime, IsEmpty, IsVacant, HasNothingToDo, Refused, HostStays, Steps, position, slot_at}
 use Rattle.dep_slot.specs.Notes.{Note, LetIn, Rejected, GrowsWhereShown}
 use Rattle.dep_host.specs.Rounds.{EndsInTime, IsReported, is_overdue}
 
@@ -41,12 +41,12 @@ IsOffer host (Some at) = IsVacant host at
 
 -- nothing can go on before a socket is ready or a time is up, and the store has no work left
 pub record IsIdle {A R K S : Type 0} (size : S → ℕ) (host : Host A R K S) : Type 0 where
-  pub waits : (at : ℕ) → IsWaiting size (slot_at at host.slots.items)
+  pub waits : (at : ℕ) → HasNothingToDo size (slot_at at host.slots.items)
   pub works : host.is_left ≡ false
 
 -- it may be asked so what comes: a free place is offered, if there is one, and it is told as idle only
 -- where it is
-pub record MayCall {A R K S : Type 0} (size : S → ℕ) (host : Host A R K S) (call : Call R K S)
+pub record MayCall {A R K S : Type 0} (size : S → ℕ) (host : Host A R K S) (call : PollCall R K S)
     : Type 0 where
   pub offered : IsOffer host call.offer
   pub idle : call.is_busy ≡ false → IsIdle size host
@@ -57,7 +57,7 @@ pub record Wakes {A R K S : Type 0} (p q : Host A R K S) (at : ℕ) (is_readable
   pub same_hub : q.hub ≡ p.hub
   pub slots : q.slots.items ≡ set p.slots.items at
       (option_map (λ s. woken_slot s is_readable is_writable) (slot_at at p.slots.items))
-  pub stays : Stays p q
+  pub stays : HostStays p q
 
 -- it is shut, for this cause
 abbrev pub IsShutBy : Option Shut → Cause → Type 0
@@ -85,8 +85,8 @@ pub record Stops {A R K S : Type 0} (p q : Host A R K S) (second : ℕ) : Type 0
   pub shut : q.shut ≡ shut_by p.shut second
 
 -- what came, of which these were met: an end is the last
-abbrev pub all_given : {R K S : Type 0} → Ended → (last : Call R K S) → List (Call R K S)
-    → List (Call R K S)
+abbrev pub all_given : {R K S : Type 0} → Ended → (last : PollCall R K S) → List (PollCall R K S)
+    → List (PollCall R K S)
 all_given ended.Events last calls = calls ++ last ∷ []
 all_given (ended.Shut why) last calls = calls
 all_given ended.Spent last calls = calls
@@ -151,7 +151,7 @@ module _ {A R K S : Type 0} (condition : A → Condition) (call_log : A → Call
     pub asks : IsAsked p mid second
     pub works : Steps condition unread taken held (position mid) [] (position q)
     pub prepares : RestsAhead condition mid.hub q.hub
-    pub stays : Stays mid q
+    pub stays : HostStays mid q
     pub slots : q.slots ≡ p.slots
     pub ahead : Runs (WorkedAhead q.is_left) (call_log mid.hub.store) (call_log q.hub.store)
 
@@ -163,7 +163,7 @@ module _ {A R K S : Type 0} (condition : A → Condition) (call_log : A → Call
     pub goes : GoesRound condition unread taken held size causes (position p) (position mid) p.first
         mid.first time reported reports
     pub left : (at : ℕ) → HasTime time.second mid.limits (slot_at at mid.slots.items)
-    pub stays : Stays (record p { first = mid.first }) mid
+    pub stays : HostStays (record p { first = mid.first }) mid
     pub asks : AsksOn mid q time.second
 
 module _ {A R K S L : Type 0} (condition : A → Condition) (unread : R → Option (List ℕ))
@@ -172,7 +172,7 @@ module _ {A R K S L : Type 0} (condition : A → Condition) (unread : R → Opti
   -- a client was let in, and its log was told
   pub record LetsIn (p q : Host A R K S) (l m : L) (at : ℕ) (client : Client R K S) : Type 0 where
     pub slot : Slot R K S
-    pub comes : Comes condition unread taken held (position p) (position q) at slot
+    pub comes : OpensSlot condition unread taken held (position p) (position q) at slot
     pub source : slot.source ≡ client.source
     pub wire : slot.wire ≡ client.wire
     pub address : slot.address ≡ client.address
@@ -181,7 +181,7 @@ module _ {A R K S L : Type 0} (condition : A → Condition) (unread : R → Opti
     pub writable : slot.state.is_writable ≡ true
     -- fewer are there that come from its address than may
     pub room : slots_from (origin client.address) p.slots.items < p.limits.address_connections
-    pub stays : Stays p q
+    pub stays : HostStays p q
     pub noted : GrowsWhereShown (notes l) (notes m) (LetIn slot.connection client.address ∷ [])
 
   -- a client was rejected for a reason, and its log was told
@@ -189,7 +189,7 @@ module _ {A R K S L : Type 0} (condition : A → Condition) (unread : R → Opti
       : Type 0 where
     pub keeps : Refused condition unread taken held (position p) (position q)
     pub may : MayRefuse p client why
-    pub stays : Stays p q
+    pub stays : HostStays p q
     pub noted : GrowsWhereShown (notes l) (notes m) (Rejected client.address why ∷ [])
 
   -- what became of a client that came to a place
@@ -233,9 +233,9 @@ module _ {A R K S L : Type 0} (condition : A → Condition) (call_log : A → Ca
   -- what it makes of all of them, one after another, and all its actions in them: before each a free
   -- place was offered, if there was one, and it was told as idle only where it was
   pub data MeetsAll (p : Host A R K S) (l : L)
-      : List (Call R K S) → List HostAction → Host A R K S → L → Type 0 where
+      : List (PollCall R K S) → List HostAction → Host A R K S → L → Type 0 where
     begins : MeetsAll p l [] [] p l
-    goes_on : {calls : List (Call R K S)} {call : Call R K S} {actions more : List HostAction}
+    goes_on : {calls : List (PollCall R K S)} {call : PollCall R K S} {actions more : List HostAction}
         {q n : Host A R K S} {m o : L} → MeetsAll p l calls actions q m → MayCall size q call
         → Meets q n m o call.offer call.event more
         → MeetsAll p l (calls ++ call ∷ []) (actions ++ more) n o
@@ -243,10 +243,10 @@ module _ {A R K S L : Type 0} (condition : A → Condition) (call_log : A → Ca
   -- What came in a call, where it is shown, and what became of each, by these actions and no others: it
   -- was met, up to the end, and no round was too late, nor the end of what is shut too soon. No more
   -- is asked for once so many came.
-  pub record Met (reported_old reported_new : Option (List (Call R K S))) (p q : Host A R K S) (l m : L)
+  pub record Met (reported_old reported_new : Option (List (PollCall R K S))) (p q : Host A R K S) (l m : L)
       (actions : List HostAction) (most : ℕ) (end : Ended) : Type 0 where
-    pub calls : List (Call R K S)
-    pub last : Call R K S
+    pub calls : List (PollCall R K S)
+    pub last : PollCall R K S
     pub given : GrowsWhereShown reported_old reported_new (all_given end last calls)
     pub each : MeetsAll p l calls actions q m
     pub steps : Steps condition unread taken held (position p) actions (position q)

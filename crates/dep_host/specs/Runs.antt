@@ -4,7 +4,7 @@ use Rattle.std.specs.List.{flat_map}
 use Rattle.std.specs.Io.KnownBytes.{append_known}
 use Rattle.dep_types.specs.State.{State}
 use Rattle.dep_types.specs.Conditions.{Condition}
-use Rattle.dep_exchange.specs.Records.{Event, Record, Connect, Arrive, Close, Stop}
+use Rattle.dep_exchange.specs.Records.{ServerEvent, Record, Connect, Arrive, Close, Stop}
 use Rattle.dep_hub.specs.Representing.{IsClean}
 use Rattle.dep_hub.specs.Holding.{RepresentsHoldingAfter, with_held}
 use Rattle.dep_hub.specs.Owed.{IsOwed}
@@ -82,14 +82,14 @@ given_of number actions = flat_map (λ d. given_by number d) actions
 
 -- a connection was opened once, what was read of it is a prefix of what its source had to give then, and
 -- while it is read still, its source has the rest
-pub record IsGiven {R K S : Type 0} (unread : R → Option (List ℕ)) (actions : List HostAction)
+pub record ReadsItsSource {R K S : Type 0} (unread : R → Option (List ℕ)) (actions : List HostAction)
     (slot : Slot R K S) : Type 0 where
   pub rest : List ℕ
   pub whole : given_of slot.connection actions ≡ Some (read_of slot.connection actions ++ rest) ∷ []
   pub left : is_ended slot.state.phase ≡ false → unread slot.source ≡ Some rest
 
 -- the bytes that arrived of it
-abbrev pub arrived_by : ℕ → Event → List ℕ
+abbrev pub arrived_by : ℕ → ServerEvent → List ℕ
 arrived_by number (Connect n) = []
 arrived_by number (Arrive n piece moment) = if number == n then piece else []
 arrived_by number (Close n) = []
@@ -109,9 +109,9 @@ IsKept number (Declines at n piece moment sent) = Unit {0}
 IsKept number (Closes at n second reason) = number ≡ n → ⊥
 
 -- none of the actions closed it
-abbrev pub StaysOpen : ℕ → List HostAction → Type 0
-StaysOpen number [] = Unit {0}
-StaysOpen number (d ∷ actions) = IsKept number d × StaysOpen number actions
+abbrev pub IsClosedByNone : ℕ → List HostAction → Type 0
+IsClosedByNone number [] = Unit {0}
+IsClosedByNone number (d ∷ actions) = IsKept number d × IsClosedByNone number actions
 
 -- how many of its items were answered
 abbrev pub replies_by : ℕ → HostAction → ℕ
@@ -141,7 +141,7 @@ parts_of number [] = 0
 parts_of number (d ∷ actions) = parts_by number d + parts_of number actions
 
 -- what the records say was sent to a connection
-abbrev pub sent_for : ℕ → Event → List ℕ → List ℕ
+abbrev pub sent_for : ℕ → ServerEvent → List ℕ → List ℕ
 sent_for number (Connect n) sent = []
 sent_for number (Arrive n piece moment) sent = if n == number then sent else []
 sent_for number (Close n) sent = []
@@ -169,7 +169,7 @@ pub record KeepsPromise {A R K S : Type 0} (condition : A → Condition) (unread
       → read_of slot.connection actions
       ≡ arrived_of slot.connection behind.more ++ behind.holds slot.connection
   pub given : ((source : R) → AreShown (unread source)) → (at : ℕ) → (slot : Slot R K S)
-      → slot_at at q.slots ≡ Some slot → IsGiven unread actions slot
+      → slot_at at q.slots ≡ Some slot → ReadsItsSource unread actions slot
 
 -- no content is still to be sent
 abbrev pub OwesNone : {A : Type 0} → Hub A → Type 0

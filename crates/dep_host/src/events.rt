@@ -86,13 +86,13 @@ pub enum Event<R, K, S> {
 /// What gives a host its events. Before each `Round` it has given one for each socket that it knows to be
 /// ready: only then are connections judged that were silent for too long.
 pub trait Events<R: Source, K: Sink, S: Spool> {
-    ghost use Rattle.dep_host.specs.Coming.{Call};
+    ghost use Rattle.dep_host.specs.Coming.{PollCall};
 
     /// Whether no more comes.
     ghost is_over: { Self → Bool };
 
     /// What came so far, each with the place that was given for it, where it shows that.
-    ghost given: { Self → Option (List (Call R K S)) } = { λ _. None };
+    ghost given: { Self → Option (List (PollCall R K S)) } = { λ _. None };
 
     /// The next event. A client comes to the place, where one is given, and none where it isn't, so
     /// that further ones wait in the queue of the system. It waits for something to come only where

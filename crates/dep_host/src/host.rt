@@ -42,7 +42,7 @@ impl<A: Archive, R: Source + Drop, K: Sink + Drop, S: Spool + Drop> Host<A, R, K
     ghost use Rattle.dep_outbox.specs.Wires.{reported};
     ghost use Rattle.dep_exchange.specs.ArchiveCalls.{WorkedAhead, Runs};
     ghost use Rattle.dep_hub.specs.WorkingAhead.{RestsAhead};
-    ghost use Rattle.dep_host.specs.Hosting.{HostAction, Steps, Serves, Closed, GoesRound, EvictsLargest, Stays, HasTime, MayGo, IsEmpty, IsReadAt, farewell, IsVacant, IsWaiting, position, slot_at, unfinished_of, unfinished_in};
+    ghost use Rattle.dep_host.specs.Hosting.{HostAction, Steps, ServesSlot, Closed, GoesRound, EvictsLargest, HostStays, HasTime, MayGo, IsEmpty, IsReadAt, farewell, IsVacant, HasNothingToDo, position, slot_at, unfinished_of, unfinished_in};
     ghost use Rattle.dep_host.specs.Coming.{origin, slots_from};
     ghost use Rattle.dep_host.specs.Rounds.{is_overdue};
     ghost use Rattle.dep_slot.specs.Causes.{causes_of};
@@ -134,7 +134,7 @@ impl<A: Archive, R: Source + Drop, K: Sink + Drop, S: Spool + Drop> Host<A, R, K
     pub fn work_ahead(&mut self) -> bool
         ensures goes { Steps A.condition R.unread K.taken S.held (position self.old) []
             (position self.new) }
-        ensures stays { Stays self.old self.new }
+        ensures stays { HostStays self.old self.new }
         ensures slots { self.new.slots ≡ self.old.slots }
         ensures left { self.new.is_left ≡ result }
         ensures prepares { RestsAhead A.condition self.old.hub self.new.hub }
@@ -262,8 +262,8 @@ impl<A: Archive, R: Source + Drop, K: Sink + Drop, S: Spool + Drop> Host<A, R, K
         ensures left { (at : ℕ)
             → HasTime time.now.second self.new.limits (slot_at at self.new.slots.items) }
         ensures waits { result ≡ false
-            → (at : ℕ) → IsWaiting S.size (slot_at at self.new.slots.items) }
-        ensures stays { Stays (record self.old { first = self.new.first }) self.new }
+            → (at : ℕ) → HasNothingToDo S.size (slot_at at self.new.slots.items) }
+        ensures stays { HostStays (record self.old { first = self.new.first }) self.new }
     {
         let is_full = self.is_full();
         let is_shut = self.shut.is_some();
@@ -296,17 +296,17 @@ impl<A: Archive, R: Source + Drop, K: Sink + Drop, S: Spool + Drop> Host<A, R, K
     ) -> TurnOutcome
         requires there { at < length self.old.slots.items }
         requires shut { turn.now.is_shut ≡ is_some self.old.shut }
-        ensures goes { Serves A.condition R.unread K.taken S.held S.size
+        ensures goes { ServesSlot A.condition R.unread K.taken S.held S.size
             (causes_of R.halts K.halts S.failures) (position self.old) (position self.new) at
             turn.now.time turn.now.is_full turn.now.may_send result.has_sent (L.notes log.old)
             (L.notes log.new) }
         ensures here { HasTime turn.now.time.second self.new.limits
             (slot_at at self.new.slots.items) }
         ensures waits { result.is_busy ≡ false
-            → IsWaiting S.size (slot_at at self.new.slots.items) }
+            → HasNothingToDo S.size (slot_at at self.new.slots.items) }
         ensures others { (place : ℕ) → (place ≡ at → ⊥)
             → slot_at place self.new.slots.items ≡ slot_at place self.old.slots.items }
-        ensures stays { Stays self.old self.new }
+        ensures stays { HostStays self.old self.new }
     {
         let Some(slot) = &mut self.slots[at] else {
             return TurnOutcome {
@@ -354,7 +354,7 @@ impl<A: Archive, R: Source + Drop, K: Sink + Drop, S: Spool + Drop> Host<A, R, K
             (L.notes log.new) }
         ensures left { (at : ℕ) → (slot_at at self.new.slots.items ≡ slot_at at self.old.slots.items)
             ⊎ (slot_at at self.new.slots.items ≡ None) }
-        ensures stays { Stays self.old self.new }
+        ensures stays { HostStays self.old self.new }
     {
         let at = self.largest();
         if self.is_full() && self.is_read(at) {
@@ -364,7 +364,7 @@ impl<A: Archive, R: Source + Drop, K: Sink + Drop, S: Spool + Drop> Host<A, R, K
 
     /// Moves the end in front of the places behind which nobody is.
     fn draw_in(&mut self)
-        ensures { (position self.new ≡ position self.old) × Stays self.old self.new }
+        ensures { (position self.new ≡ position self.old) × HostStays self.old self.new }
     {
         for _ in 0..self.end {
             if self.slots[self.end - 1].is_some() {

@@ -14,7 +14,7 @@ use Rattle.dep_exchange.specs.Sending.{Outside}
 use Rattle.dep_exchange.specs.Serving.{IsDeadIfShut}
 use Rattle.dep_exchange.specs.Shut.{LeavesNoMore, IfShut, SendsFixed}
 use Rattle.dep_hub.specs.Representing.{IsKeptAs}
-use Rattle.dep_hub.specs.Holding.{fed, IsHeldAs, Outcome, ArrivesAs, items_answered}
+use Rattle.dep_hub.specs.Holding.{fed, IsHeldAs, ArrivalOutcome, ArrivesAs, items_answered}
 use Rattle.dep_exchange.specs.declared.arrived.Arrived.{Arrived}
 use Rattle.dep_exchange.specs.declared.arrived.Arrived.TheVariants as came
 use Rattle.dep_hub.proofs.HubLemmas.{beyond, open_shut}
@@ -45,7 +45,7 @@ one_of_one = omega arith
 -- ---- one connection
 
 -- what the arrival of a part makes of a line
-pub record NextPart (config : Config) (offered : List ℕ) (moment : ℕ) (line : Line) (s : State) (sent : List ℕ) (old new : Outside) (now : Reading) (answer : Arrived) (outcome : Outcome)
+pub record NextPart (config : Config) (offered : List ℕ) (moment : ℕ) (line : Line) (s : State) (sent : List ℕ) (old new : Outside) (now : Reading) (answer : Arrived) (outcome : ArrivalOutcome)
     : Type 0 where
   pub part : List ℕ
   pub rest : List ℕ
@@ -61,7 +61,7 @@ pub record NextPart (config : Config) (offered : List ℕ) (moment : ℕ) (line 
   pub cause : answer ≡ came.Cut → HasRisen old.failures new.failures ⊎ IsCutWhileStreaming arrival
 
 -- the same from any state, which stays
-pub record StillPart (config : Config) (offered : List ℕ) (moment : ℕ) (line : Line) (sent : List ℕ) (now : Reading) (answer : Arrived) (outcome : Outcome) : Type 0 where
+pub record StillPart (config : Config) (offered : List ℕ) (moment : ℕ) (line : Line) (sent : List ℕ) (now : Reading) (answer : Arrived) (outcome : ArrivalOutcome) : Type 0 where
   pub part : List ℕ
   pub rest : List ℕ
   pub whole : offered ≡ part ++ rest
@@ -76,7 +76,7 @@ pub record Keeps (limit : ℕ) (line : Line) (offered : List ℕ) (reading : Rea
   pub is_fed : reading ≡ fed head_only offered
 
 -- the same for whatever line the intake kept, with whatever bytes more
-pub record NextOver (config : Config) (reading now : Reading) (moment : ℕ) (old new : Outside) (answer : Arrived) (outcome : Outcome) : Type 0 where
+pub record NextOver (config : Config) (reading now : Reading) (moment : ℕ) (old new : Outside) (answer : Arrived) (outcome : ArrivalOutcome) : Type 0 where
   pub sent : List ℕ
   pub appends : Appends old.taken new.taken sent
   pub parts : HasCleanDisk new.store → (line : Line) (s : State) (offered : List ℕ) → Keeps config.max_upload line offered reading → Represents old.store s

@@ -12,7 +12,7 @@ use Rattle.dep_exchange.specs.Serving.{IsDeadIfShut}
 use Rattle.dep_exchange.specs.Nexts.{RunsOut, AnswersNext, arrived_after}
 use Rattle.dep_hub.specs.Representing.{intake_of, IsKeptAs, RepresentsAt, store_of, IsClean}
 use Rattle.dep_exchange.specs.Archives.{KeepsAll}
-use Rattle.dep_hub.specs.Holding.{RestsOn, RepresentsOn, with_held, fed, IsHeldAs, Outcome, IsNext, IsRefused, KeepsHolding, RepresentsHolding, RepresentsHoldingAfter, LineTransition, PartArrives, AnswersOver, ComesToNext, OffersTo}
+use Rattle.dep_hub.specs.Holding.{RestsOn, RepresentsOn, with_held, fed, IsHeldAs, ArrivalOutcome, IsNext, IsRefused, KeepsHolding, RepresentsHolding, RepresentsHoldingAfter, LineTransition, PartArrives, AnswersOver, ComesToNext, OffersTo}
 use Rattle.dep_hub.specs.Numbers.{place_of_number, Ascends}
 use Rattle.dep_exchange.specs.declared.arrived.Arrived.{Arrived}
 use Rattle.dep_exchange.specs.declared.arrived.Arrived.TheVariants as came
@@ -131,7 +131,7 @@ module _ {A : Type 0} (condition : A → Condition) (old new : Hub A) (n i : ℕ
     abbrev After : Outside
     After = outside takes failures_after (store_of condition new)
 
-    answers_over : (reading : Reading) (offered : List ℕ → List ℕ) (moment : ℕ) (answer : Arrived) (outcome : Outcome) → NextOver old.config reading now moment Before After answer outcome
+    answers_over : (reading : Reading) (offered : List ℕ → List ℕ) (moment : ℕ) (answer : Arrived) (outcome : ArrivalOutcome) → NextOver old.config reading now moment Before After answer outcome
         → ((limit : ℕ) (line : Line) (held : List ℕ) → IsHeldAs limit line held (Some c.intake) → IsHeldAs limit line (offered held) (Some reading))
         → AnswersOver condition taken takes failures failures_after old new n offered moment answer outcome
     answers_over reading offered moment answer outcome v offers = record {

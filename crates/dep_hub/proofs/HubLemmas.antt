@@ -13,11 +13,11 @@ use Rattle.dep_message.proofs.Reading.{reads_more, reads_append}
 use Rattle.dep_types.specs.Conditions.{Condition, Represents, Leaves}
 use Rattle.dep_exchange.specs.Machine.{Serves, serves_all, step_fails, gives_up, given_up, cut_short, answer_at_place}
 use Rattle.dep_exchange.specs.Stops.{LeftByServing}
-use Rattle.dep_exchange.specs.Records.{Event, Connect, Arrive, Close, Record, stopped, Line, Absent, Live, ShutLine, World, first_world, with_line, line_after, ReadsBeyond, Arrives, at_live, at_shut_line, LeftByArrival, MayShut, connects, closes, arrives, Run, goes_on, stops, breaks}
+use Rattle.dep_exchange.specs.Records.{ServerEvent, Connect, Arrive, Close, Record, stopped, Line, Absent, Live, ShutLine, World, first_world, with_line, line_after, ReadsBeyond, Arrives, at_live, at_shut_line, LeftByArrival, MayShut, connects, closes, arrives, Run, goes_on, stops, breaks}
 use Rattle.dep_exchange.specs.Causes.{EndsInContent, IsCutWhileStreaming}
 use Rattle.dep_exchange.specs.Sending.{Outside, outside}
 use Rattle.dep_exchange.specs.Serving.{IsDeadIfShut, arrival_of, ServesFrom, ServesOver}
-use Rattle.dep_hub.specs.Representing.{intake_of, KeepsRest, IsKeptAs, RepresentsAt, RepresentsAfter, StopsAfter, Adds, Transition, ArrivesTo, ArrivesShut, ArrivesOver, ComesTo, store_of, IsClean, IsHonest}
+use Rattle.dep_hub.specs.Representing.{intake_of, KeepsRest, IsKeptAs, RepresentsAt, RepresentsAfter, StopsAfter, AddsRecord, Transition, ArrivesTo, ArrivesShut, ArrivesOver, ComesTo, store_of, IsClean, IsHonest}
 use Rattle.dep_exchange.specs.Shut.{IfShut}
 use Rattle.dep_hub.specs.Claims.{is_any_pending, is_any_waiting}
 use Rattle.dep_hub.specs.Numbers.{place_of_number, Ascends, Ascends-prop}
@@ -311,7 +311,7 @@ module _ {A : Type 0} (condition : A → Condition) (old new : Hub A) (n i : ℕ
         cause = r.cause;
       }
 
-  arrives_adds : (answer : Arrived) (v : Over answer) → IsClean condition new → Adds condition old new (Arrive n piece moment) v.sent
+  arrives_adds : (answer : Arrived) (v : Over answer) → IsClean condition new → AddsRecord condition old new (Arrive n piece moment) v.sent
   arrives_adds answer v clean first records h =
       let a = arrives_at answer v (law clean) h.world h.at in
       record {
@@ -395,7 +395,7 @@ module _ {A : Type 0} (condition : A → Condition) (old new : Hub A) (config : 
   )
 
   -- what moves, adds
-  pub moves_adds : (event : Event) (sent : List ℕ) → Transition condition old new event sent → Adds condition old new event sent
+  pub moves_adds : (event : ServerEvent) (sent : List ℕ) → Transition condition old new event sent → AddsRecord condition old new event sent
   moves_adds event sent m first records h =
       let a = m h.world h.at in
       record {

@@ -13,7 +13,7 @@ use Rattle.dep_hub.specs.Claims.{claim_of, has_to_wait, is_any_pending, waits_on
 use Rattle.dep_exchange.specs.declared.next.Next.{Next}
 use Rattle.dep_hub.specs.Looks.{SeesHead, ShowsItem, is_new, is_to_prepare}
 use Rattle.dep_hub.specs.Preparing.{IsLookedAt, names_uploads}
-use Rattle.dep_hub.specs.RepresentsOwing.{IsAnswerable, IsReady, KeepsBack, KeptBack, NextIsAnswerable, NextIsKeptBack, RepliesOver, begins_to_prepare, begins_to_wait, behind_at, lacks_memory, waits_still}
+use Rattle.dep_hub.specs.RepresentsOwing.{IsAnswerable, MayBeLookedAt, KeepsBack, KeptBack, NextIsAnswerable, NextIsKeptBack, RepliesOver, begins_to_prepare, begins_to_wait, behind_at, lacks_memory, waits_still}
 use Rattle.dep_hub.specs.Numbers.{place_of_number}
 use Rattle.dep_hub.specs.Representing.{GoesOnAs, intake_of}
 use Rattle.dep_hub.specs.declared.claim.Claim.{Claim}
@@ -53,7 +53,7 @@ none_holds : (holds : HeadParts → Bool) (reading : Reading) (m : Message) (nex
 none_holds holds reading m next first isnt other after f =
     ap (holds_of holds) (sym (one_at reading.limit reading.place (Request m) (Request other) next after first f).0) ∙ isnt
 
-module _ (reading : Reading) (was : Behind) (is_busy : Bool) (ready : IsReady was) where
+module _ (reading : Reading) (was : Behind) (is_busy : Bool) (ready : MayBeLookedAt was) where
   -- no request stands first
   pub none_seen : IsNoRequest reading.limit reading.place → (cs : List Connection) → ShowsItem cs reading was Free
   none_seen absent cs = (ready, (λ m next f. absurd (absent m next f)), λ nothing m next f. absurd (absent m next f))
@@ -81,7 +81,7 @@ module _ (reading : Reading) (was : Behind) (is_busy : Bool) (ready : IsReady wa
   shows_lack (inr is) has cs busy = lacks_memory ready (inr (sym busy ∙ is)) has refl
 
 -- nothing is asked of it
-pub shows_free : (cs : List Connection) (reading : Reading) (was : Behind) → IsReady was → is_new was ≡ false → is_any_pending cs ≡ false → ShowsItem cs reading was Free
+pub shows_free : (cs : List Connection) (reading : Reading) (was : Behind) → MayBeLookedAt was → is_new was ≡ false → is_any_pending cs ≡ false → ShowsItem cs reading was Free
 shows_free cs reading was ready seen idle = (ready, (λ m next f. idle_waits cs (claim_of m.head) idle), λ nothing. absurd (true_false (sym (ap is_new nothing) ∙ seen)))
 
 -- it has to wait by its claim, or it may be answered

@@ -17,7 +17,7 @@ use Rattle.dep_exchange.specs.Shut.{waits, has_ended}
 use Rattle.dep_exchange.specs.Shut as fixed
 use Rattle.dep_exchange.specs.Nexts.{RunsOut, IsLast, IsDead, GoesOn, IsWaiting, AnswersNext, arrived_after}
 use Rattle.dep_hub.specs.Representing.{IsShut}
-use Rattle.dep_hub.specs.Holding.{Outcome, ArrivesAs, items_answered, IsNext}
+use Rattle.dep_hub.specs.Holding.{ArrivalOutcome, ArrivesAs, items_answered, IsNext}
 use Rattle.dep_exchange.specs.declared.arrived.Arrived.{Arrived}
 use Rattle.dep_exchange.specs.declared.arrived.Arrived.TheVariants as came
 use Rattle.dep_exchange.specs.declared.next.Next.{Next}
@@ -31,7 +31,7 @@ use Rattle.dep_hub.proofs.HubLemmas.{beyond, open_shut}
 use Rattle.dep_hub.proofs.HeldLemmas.{no_bytes, closed_cut, none_of_one, one_of_one, NextPart, StillPart, Keeps, NextOver, keeps_limit, ended_limit, keeps_place, ended_place, live_open, ended_dead, keeps_dead, first_of, no_first, Reaches, reaches_next, reaches_none}
 use Rattle.dep_hub.proofs.Endings.{place_nothing}
 
-module _ (config : Config) (moment : ℕ) (old new : Outside) (now : Reading) (settles : Settles new.store) (outcome : Outcome) where
+module _ (config : Config) (moment : ℕ) (old new : Outside) (now : Reading) (settles : Settles new.store) (outcome : ArrivalOutcome) where
   -- the items are answered, and the connection stays open
   part_live : (stream offered : List ℕ) (s : State) (items : List Item) (sent : List ℕ) (r : Reaches config.max_upload stream offered items now)
       → outcome (length items) r.rest (replies config s items moment)
@@ -171,7 +171,7 @@ module _ (config : Config) (moment : ℕ) (old new : Outside) (reading now : Rea
       still ShutLine offered k = absurd (let bad : true ≡ false = sym (ended_dead config.max_upload offered reading k) ∙ w.lives in cc)
 
   -- ---- memory ran out
-  pub over_out : (answer : Arrived) (outcome : Outcome) (o : RunsOut reading.place old new answer) → outcome 0 [] o.sent → answer ≢ came.Open → now.place ≡ Shut
+  pub over_out : (answer : Arrived) (outcome : ArrivalOutcome) (o : RunsOut reading.place old new answer) → outcome 0 [] o.sent → answer ≢ came.Open → now.place ≡ Shut
       → NextOver config reading now moment old new answer outcome
   over_out answer outcome o is ends shut = record {
     sent = o.sent;
@@ -270,7 +270,7 @@ module _ (config : Config) (moment : ℕ) (old new : Outside) (reading now : Rea
       still h ShutLine offered k = absurd (no_first config.max_upload offered reading item next k f)
 
   -- it was not answered by all of its own reply
-  over_failed : (item : Item) (next : Place) (how : Answered) (outcome : Outcome) → FirstAt reading.limit reading.place item next → how ≢ Sent
+  over_failed : (item : Item) (next : Place) (how : Answered) (outcome : ArrivalOutcome) → FirstAt reading.limit reading.place item next → how ≢ Sent
       → (a : Answers config old new item moment how) → outcome 1 [] a.sent → answer_after how ≢ came.Open → now.place ≡ Shut
       → (HasCleanDisk new.store → (s : State) → Represents old.store s → FailsFrom config s item moment a.sent old new (answer_after how))
       → NextOver config reading now moment old new (answer_after how) outcome

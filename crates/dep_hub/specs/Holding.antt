@@ -8,7 +8,7 @@ use Rattle.dep_types.specs.Conditions.{Condition, Represents, Leaves}
 use Rattle.dep_message.specs.Places.{Place, Reading, place_with}
 use Rattle.dep_message.specs.Stream.{Item}
 use Rattle.dep_exchange.specs.Machine.{Serves, serves_all, step_fails, gives_up, SendsUpTo, out_of_memory}
-use Rattle.dep_exchange.specs.Records.{Event, Arrive, Record, stopped, Run, Line, World, first_world, with_line, Arrives, at_live, at_shut_line, LeftByArrival}
+use Rattle.dep_exchange.specs.Records.{ServerEvent, Arrive, Record, stopped, Run, Line, World, first_world, with_line, Arrives, at_live, at_shut_line, LeftByArrival}
 use Rattle.dep_hub.specs.Representing.{IsKeptAs, intake_of, store_of, IsClean, IsHonest, IsNoSuch}
 use Rattle.dep_exchange.specs.Causes.{HasCause}
 use Rattle.dep_exchange.specs.Shut.{LeavesNoMore, IfShut, SendsFixed}
@@ -49,11 +49,11 @@ items_answered at_shut_line = 0
 
 -- what is said of such an arrival: how many items it answered, which bytes are held still, and
 -- which were sent
-abbrev pub Outcome : Type 1
-Outcome = (items : ℕ) → (rest sent : List ℕ) → Type 0
+abbrev pub ArrivalOutcome : Type 1
+ArrivalOutcome = (items : ℕ) → (rest sent : List ℕ) → Type 0
 
 -- the next item was answered
-abbrev pub IsNext : Next → Outcome
+abbrev pub IsNext : Next → ArrivalOutcome
 IsNext More items rest sent = items ≡ 1
 IsNext Waiting items rest sent = (items ≡ 0) × (rest ≡ []) × (sent ≡ [])
 IsNext Closed items rest sent = (items ≤ 1) × (rest ≡ [])
@@ -61,11 +61,11 @@ IsNext Cut items rest sent = (items ≤ 1) × (rest ≡ [])
 IsNext NoSuch items rest sent = ⊥
 
 -- memory ran out for a piece that was offered: no item was answered, and nothing is held
-abbrev pub IsRefused : Arrived → Outcome
+abbrev pub IsRefused : Arrived → ArrivalOutcome
 IsRefused answer items rest sent = (items ≡ 0) × (rest ≡ []) × SendsUpTo out_of_memory sent answer
 
 -- an arrival with such an outcome
-abbrev pub ArrivesAs : Outcome → Config → (part : List ℕ) → (moment : ℕ) → (line : Line) → (s : State)
+abbrev pub ArrivesAs : ArrivalOutcome → Config → (part : List ℕ) → (moment : ℕ) → (line : Line) → (s : State)
     → (sent : List ℕ) → (left : State) → (after : Line) → Arrived → (rest : List ℕ) → Type 0
 ArrivesAs outcome config part moment line s sent left after answer rest =
     (a : Arrives config part moment line s sent left after answer)
@@ -146,7 +146,7 @@ module _ {A : Type 0} (condition : A → Condition) where
   -- whatever lines the hub kept, and whatever it held, a part arrives from any state, and that state
   -- stays
   pub record PartArrivesStill (config : Config) (new : Hub A) (number : ℕ) (offered : List ℕ)
-      (moment : ℕ) (sent : List ℕ) (answer : Arrived) (outcome : Outcome) (lines : ℕ → Line)
+      (moment : ℕ) (sent : List ℕ) (answer : Arrived) (outcome : ArrivalOutcome) (lines : ℕ → Line)
       (held : ℕ → List ℕ) : Type 0 where
     pub part : List ℕ
     pub rest : List ℕ
@@ -158,7 +158,7 @@ module _ {A : Type 0} (condition : A → Condition) where
 
   -- so at a hub whose store was shut: nothing of what it keeps is sent (`ArrivesShut`)
   pub record AnswersShut (old new : Hub A) (number : ℕ) (offered : List ℕ → List ℕ) (moment : ℕ)
-      (sent : List ℕ) (answer : Arrived) (outcome : Outcome) : Type 0 where
+      (sent : List ℕ) (answer : Arrived) (outcome : ArrivalOutcome) : Type 0 where
     pub sends : SendsFixed sent answer
     pub leaves : LeavesNoMore (store_of condition old) (store_of condition new)
     pub goes_on : (lines : ℕ → Line) → (held : ℕ → List ℕ) → KeepsHolding old lines held
@@ -168,7 +168,7 @@ module _ {A : Type 0} (condition : A → Condition) where
   -- the same over an outlet, from whatever world the hub stood at, and whatever it held
   pub record AnswersOver (taken takes : Option (List ℕ)) (failures failures_after : ℕ)
       (old new : Hub A) (number : ℕ) (offered : List ℕ → List ℕ) (moment : ℕ) (answer : Arrived)
-      (outcome : Outcome) : Type 0 where
+      (outcome : ArrivalOutcome) : Type 0 where
     pub sent : List ℕ
     pub appends : Appends taken takes sent
     pub answers : IsHonest condition new → (w : World) → (held : ℕ → List ℕ)
@@ -243,7 +243,7 @@ module _ {A : Type 0} (condition : A → Condition) where
 
   -- an event for which nothing is sent, and which moves one line, is a run's next record, with the
   -- store as it was
-  abbrev pub LineAdds : Hub A → Hub A → Event → (number : ℕ) → Line
+  abbrev pub LineAdds : Hub A → Hub A → ServerEvent → (number : ℕ) → Line
       → (left : (ℕ → List ℕ) → ℕ → List ℕ) → Type 0
   LineAdds old new event number line left = (first : State) (records : List Record)
       (held : ℕ → List ℕ) → RepresentsHoldingAfter old first records held

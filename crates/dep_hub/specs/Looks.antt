@@ -4,7 +4,7 @@ use Rattle.dep_head.specs.Head.{HeadParts}
 use Rattle.dep_message.specs.Places.{Reading}
 use Rattle.dep_hub.specs.Claims.{claim_of}
 use Rattle.dep_hub.specs.Preparing.{IsLookedAt, most_steps, names_uploads}
-use Rattle.dep_hub.specs.RepresentsOwing.{HasClaim, IsAnswerable, IsReady, KeptBack}
+use Rattle.dep_hub.specs.RepresentsOwing.{HasClaim, IsAnswerable, MayBeLookedAt, KeptBack}
 use Rattle.dep_hub.specs.declared.connections.Connection.{Connection}
 use Rattle.dep_hub.specs.declared.keeping.Look.{Look}
 use Rattle.dep_hub.specs.declared.keeping.Look.TheVariants.{Kept, Claims, Free}
@@ -30,5 +30,5 @@ SeesHead was is_busy head Free = (is_to_prepare was head ≡ false) × (is_busy 
 abbrev pub ShowsItem : List Connection → Reading → (was : Behind) → Look → Type 0
 ShowsItem connections reading was (Kept now) = KeptBack connections reading was now
 ShowsItem connections reading was (Claims claim) =
-    IsReady was × IsLookedAt reading was × HasClaim reading was claim
+    MayBeLookedAt was × IsLookedAt reading was × HasClaim reading was claim
 ShowsItem connections reading was Free = IsAnswerable connections reading was

@@ -6,7 +6,7 @@ use Rattle.dep_types.specs.declared.config.Config.{Config}
 use Rattle.dep_message.specs.Places.{Shut, Reading, IsOpen}
 use Rattle.dep_message.specs.Stream.{Item, Spells}
 use Rattle.dep_types.specs.Conditions.{Condition, Represents, HasCleanDisk, Leaves}
-use Rattle.dep_exchange.specs.Records.{Event, Arrive, Record, stopped, Line, Absent, Live, ShutLine, World, Run, first_world, with_line, Arrives, LeftByArrival, Happens}
+use Rattle.dep_exchange.specs.Records.{ServerEvent, Arrive, Record, stopped, Line, Absent, Live, ShutLine, World, Run, first_world, with_line, Arrives, LeftByArrival, Happens}
 use Rattle.dep_exchange.specs.declared.arrived.Arrived.{Arrived}
 use Rattle.dep_exchange.specs.declared.arrived.Arrived.TheVariants.{Open as StaysOpen, Closed, Cut, NoSuch}
 use Rattle.dep_hub.specs.declared.connections.Connection.{Connection}
@@ -110,12 +110,12 @@ module _ {A : Type 0} (condition : A → Condition) where
     pub rests : LeavesItsState old (store_of new)
 
   -- for all records that it represented, the hub represents them with one more
-  abbrev pub Adds : Hub A → Hub A → Event → List ℕ → Type 0
-  Adds old new event sent = (first : State) (records : List Record) → RepresentsAfter old first records
+  abbrev pub AddsRecord : Hub A → Hub A → ServerEvent → List ℕ → Type 0
+  AddsRecord old new event sent = (first : State) (records : List Record) → RepresentsAfter old first records
       → RepresentsAfter new first (records ++ record { event = event; sent = sent } ∷ [])
 
   -- whatever machine the hub kept, it keeps what the event makes of that machine
-  abbrev pub Transition : Hub A → Hub A → Event → List ℕ → Type 0
+  abbrev pub Transition : Hub A → Hub A → ServerEvent → List ℕ → Type 0
   Transition old new event sent = (w : World) → RepresentsAt old w
       → (w' : World) × Happens old.config w event sent w' × RepresentsAt new w'
 
@@ -136,7 +136,7 @@ module _ {A : Type 0} (condition : A → Condition) where
     pub cause : answer ≡ Cut → HasCause failures failures_after arrives
 
   -- what a stop at the end of an arrival leaves represents the records, with the arrival and a stop
-  abbrev pub StopsAfter : Hub A → Hub A → Event → List ℕ → Type 0
+  abbrev pub StopsAfter : Hub A → Hub A → ServerEvent → List ℕ → Type 0
   StopsAfter old new event sent = IsHonest new → (first : State) (records : List Record)
       → RepresentsAfter old first records
       → Leaves (store_of new) (λ found. Run old.config first
@@ -158,7 +158,7 @@ module _ {A : Type 0} (condition : A → Condition) where
   pub record IsArrival (old new : Hub A) (number : ℕ) (piece : List ℕ) (moment : ℕ)
       (sent : List ℕ)
       (failures failures_after : ℕ) (answer : Arrived) : Type 0 where
-    pub adds : IsClean new → Adds old new (Arrive number piece moment) sent
+    pub adds : IsClean new → AddsRecord old new (Arrive number piece moment) sent
     pub stops : StopsAfter old new (Arrive number piece moment) sent
     pub clean : IsClean new → IsClean old
     pub honest : IsHonest new → IsHonest old

@@ -54,8 +54,8 @@ is_unsent Broken = true
 is_unsent behind = false
 
 -- its next request may be looked at: the last reply was all sent, and it isn't being prepared
-abbrev pub IsReady : Behind → Type 0
-IsReady behind = (is_unsent behind ≡ false) × (is_preparing behind ≡ false)
+abbrev pub MayBeLookedAt : Behind → Type 0
+MayBeLookedAt behind = (is_unsent behind ≡ false) × (is_preparing behind ≡ false)
 
 -- its next request was looked at
 abbrev pub is_looked_at : Behind → Bool
@@ -103,16 +103,16 @@ pub data KeptBack (connections : List Connection) (reading : Reading) (was now :
   waits_still : (claim : Claim) → was ≡ Waits claim → now ≡ Waits claim
       → has_to_wait connections claim ≡ true → KeptBack connections reading was now
   -- its next request has to wait from now on
-  begins_to_wait : (claim : Claim) → IsReady was → HasClaim reading was claim → now ≡ Waits claim
+  begins_to_wait : (claim : Claim) → MayBeLookedAt was → HasClaim reading was claim → now ≡ Waits claim
       → has_to_wait connections claim ≡ true → KeptBack connections reading was now
   -- memory ran out as its next request was looked at, and it isn't prepared any more
-  lacks_memory : IsReady was → (was ≡ Nothing) ⊎ (is_any_pending connections ≡ true)
+  lacks_memory : MayBeLookedAt was → (was ≡ Nothing) ⊎ (is_any_pending connections ≡ true)
       → HasFirstHead reading.place → now ≡ Prepared → KeptBack connections reading was now
 
 -- the next item of this connection may be answered
 abbrev pub IsAnswerable : List Connection → Reading → Behind → Type 0
 IsAnswerable connections reading behind =
-    IsReady behind × IsFree connections reading × IsLookedAt reading behind
+    MayBeLookedAt behind × IsFree connections reading × IsLookedAt reading behind
 
 -- so it is with the connection of this number
 abbrev pub NextIsAnswerable : List Connection → (number : ℕ) → Type 0

@@ -50,7 +50,7 @@ const MOST_CONNECTIONS: usize = 1_024;
 const LAST_NUMBER: u64 = 4_000_000_000_000_000_000;
 
 impl<A: Archive> Hub<A> {
-    ghost use Rattle.dep_hub.specs.Representing.{RepresentsAfter, RepresentsAt, GoesOnFrom, GoesOnAs, IsHonest, KeepsStore, LeavesStore, LeavesItsState, store_of, Adds, Transition, ComesTo, intake_of};
+    ghost use Rattle.dep_hub.specs.Representing.{RepresentsAfter, RepresentsAt, GoesOnFrom, GoesOnAs, IsHonest, KeepsStore, LeavesStore, LeavesItsState, store_of, AddsRecord, Transition, ComesTo, intake_of};
     ghost use Rattle.dep_hub.specs.Holding.{HoldsOn, RestsOn, LineTransition, OffersTo, with_held};
     ghost use Rattle.dep_hub.specs.RepresentsOwing.{behind_at, is_awaited_at, KeepsBack, NextIsAnswerable, NextIsFree, NextIsKeptBack, NextIsPrepared, RepliesOver, SendsOn};
     ghost use Rattle.dep_hub.specs.Claims.{is_content};
@@ -104,7 +104,7 @@ impl<A: Archive> Hub<A> {
     /// Opens a connection, and returns its number. An `Err` changes nothing.
     pub fn connect(&mut self) -> Result<ConnId, ConnectFault>
         ensures adds { IfOk result
-            (λ number. Adds A.condition self.old self.new (Connect number) []) }
+            (λ number. AddsRecord A.condition self.old self.new (Connect number) []) }
         ensures moves { IfOk result
             (λ number. Transition A.condition self.old self.new (Connect number) []) }
         ensures same { OnErr result ((w : World) → RepresentsAt A.condition self.old w
@@ -430,7 +430,7 @@ impl<A: Archive> Hub<A> {
 
     /// Forgets a connection. What it holds is dropped, and one that isn't there changes nothing.
     pub fn close(&mut self, connection: ConnId)
-        ensures adds { Adds A.condition self.old self.new (Close connection) [] }
+        ensures adds { AddsRecord A.condition self.old self.new (Close connection) [] }
         ensures moves { Transition A.condition self.old self.new (Close connection) [] }
         // What it held never arrives, and what the others hold stays.
         ensures holding { LineTransition A.condition self.old self.new connection Absent

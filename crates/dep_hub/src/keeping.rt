@@ -4,7 +4,7 @@ ghost use Rattle.dep_message.specs.Giving.{HasFirstHead};
 ghost use Rattle.dep_message.specs.Places.{Reading};
 ghost use Rattle.dep_hub.specs.Claims.{is_any_pending};
 ghost use Rattle.dep_hub.specs.Looks.{SeesHead, ShowsItem, is_new, is_to_prepare as spec_is_to_prepare};
-ghost use Rattle.dep_hub.specs.RepresentsOwing.{IsAnswerable, IsReady, KeptBack};
+ghost use Rattle.dep_hub.specs.RepresentsOwing.{IsAnswerable, MayBeLookedAt, KeptBack};
 ghost use Rattle.dep_hub.specs.declared.connections.Connection.{Connection as AConnection};
 ghost use Rattle.dep_hub.specs.declared.rest.Behind.{Behind as ABehind};
 ghost use Rattle.dep_hub.specs.declared.rest.Behind.TheVariants.{Nothing};
@@ -89,7 +89,7 @@ pub(crate) fn kept_by(connections: &[Connection], look: Look) -> Option<Behind>
 
 // What a look shows where the next request was looked at before.
 fn look_again(site: &Site, is_busy: bool, was: Behind, intake: &mut Intake) -> Look
-    requires ready { IsReady was }
+    requires ready { MayBeLookedAt was }
     requires seen { is_new was ≡ false }
     ensures same { intake.new ≡ intake.old }
     ensures shows { (connections : List AConnection) → is_busy ≡ is_any_pending connections
@@ -103,7 +103,7 @@ fn look_again(site: &Site, is_busy: bool, was: Behind, intake: &mut Intake) -> L
 
 // Looks at the next request behind a reply that was all sent. Where memory runs out it isn't prepared any more.
 fn look_at_next(site: &Site, is_busy: bool, was: Behind, intake: &mut Intake) -> Look
-    requires ready { IsReady was }
+    requires ready { MayBeLookedAt was }
     requires asked { (was ≡ Nothing) ⊎ (is_busy ≡ true) }
     ensures same { intake.new ≡ intake.old }
     ensures shows { (connections : List AConnection) → is_busy ≡ is_any_pending connections
@@ -122,7 +122,7 @@ fn seen_of_next(
     was: Behind,
     intake: &mut Intake,
 ) -> Result<Look, AllocError>
-    requires { IsReady was }
+    requires { MayBeLookedAt was }
     ensures same { intake.new ≡ intake.old }
     ensures shows { MatchResult result
         (λ look. (connections : List AConnection) → is_busy ≡ is_any_pending connections

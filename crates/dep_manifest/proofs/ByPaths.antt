@@ -7,7 +7,7 @@ use Rattle.hex.specs.Hex.{encode_lower, lower_digits}
 use Rattle.hex.proofs.HexLemmas.{length-encode_with}
 use Rattle.sha2.proofs.Facts256.{length-sha256}
 use Rattle.sha2.proofs.Facts512.{length-sha512}
-use Rattle.dep_types.specs.Sinks.{Entry}
+use Rattle.dep_types.specs.Sinks.{PathAndBytes}
 use Rattle.dep_types.specs.BagPaths.{payload_path}
 use Rattle.dep_types.specs.declared.rows.FileRow.{FileRow}
 use Rattle.dep_types.specs.declared.rows.ObjectView.{ObjectView}
@@ -30,13 +30,13 @@ line_by digits path size is =
     let first = length-append digits (codes "  ") in
     omega (arith, whole, front, first, is)
 
-line_is : (a : Algorithm) (file : Entry) → length (manifest_line (checksum_of (digest_by a) file)) ≡ line_length (digest_by a) file.0
+line_is : (a : Algorithm) (file : PathAndBytes) → length (manifest_line (checksum_of (digest_by a) file)) ≡ line_length (digest_by a) file.0
 line_is a file =
     let value = (digest_by a).of file.1 in
     line_by (encode_lower value) (encoded_path file.0) (digest_by a).size (length-encode_with lower_digits value ∙ ap (λ n. 2 * n) (sized a file.1))
 
 -- a manifest, by the paths alone
-pub manifest_length : (a : Algorithm) (files : List Entry) → length (manifest_of (digest_by a) files) ≡ sum_by (line_length (digest_by a)) (map (λ file. file.0) files)
+pub manifest_length : (a : Algorithm) (files : List PathAndBytes) → length (manifest_of (digest_by a) files) ≡ sum_by (line_length (digest_by a)) (map (λ file. file.0) files)
 manifest_length a [] = refl
 manifest_length a (file ∷ files) =
     length-append (manifest_line (checksum_of (digest_by a) file)) (manifest_of (digest_by a) files)
@@ -54,7 +54,7 @@ sum_by_paths a (row ∷ rows) =
     ∙ ap (λ n. line_length (digest_by a) (row_path row) + n) (sum_by_paths a rows)
     ∙ sym (sum_by-cons (λ r. line_length (digest_by a) (row_path r)) row rows)
 
-pub payload_length : (a : Algorithm) (rows : List FileRow) (files : List Entry) → map (λ file. file.0) files ≡ map row_path rows → length (manifest_of (digest_by a) files) ≡ rows_length a rows
+pub payload_length : (a : Algorithm) (rows : List FileRow) (files : List PathAndBytes) → map (λ file. file.0) files ≡ map row_path rows → length (manifest_of (digest_by a) files) ≡ rows_length a rows
 payload_length a rows files e = manifest_length a files ∙ ap (sum_by (line_length (digest_by a))) e ∙ sum_by_paths a rows
 
 -- the path of a payload file, by its parts
@@ -75,6 +75,6 @@ sum_of_listed : (a : Algorithm) (view : ObjectView) → sum_by (line_length (dig
 sum_of_listed Sha256 view = refl
 sum_of_listed Sha512 view = refl
 
-pub listed_length : (a : Algorithm) (view : ObjectView) (files : List Entry) → map (λ file. file.0) files ≡ map (λ file. file.0) (reported_listed view)
+pub listed_length : (a : Algorithm) (view : ObjectView) (files : List PathAndBytes) → map (λ file. file.0) files ≡ map (λ file. file.0) (reported_listed view)
     → length (manifest_of (digest_by a) files) ≡ tag_length a
 listed_length a view files e = manifest_length a files ∙ ap (sum_by (line_length (digest_by a))) e ∙ sum_of_listed a view

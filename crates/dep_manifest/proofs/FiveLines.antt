@@ -1,6 +1,6 @@
 -- The lines of five files, added one after another.
 use Rattle.std.proofs.Common.{◌≡◌, ℕ, List, [], ◌∷◌, ◌++◌, ap, ◌∙◌, append_assoc, append-nil, Vec, Global}
-use Rattle.dep_types.specs.Sinks.{Entry}
+use Rattle.dep_types.specs.Sinks.{PathAndBytes}
 use Rattle.dep_manifest.specs.Manifest.{Digest, checksum_of, manifest_line, manifest_of}
 use Rattle.dep_manifest.specs.declared.algorithm.Algorithm.{Algorithm}
 use Rattle.dep_manifest.specs.declared.algorithm.Algorithm.TheVariants.{Sha256, Sha512}
@@ -12,13 +12,13 @@ no_text Sha256 x y e g = e
 no_text Sha512 x y e g = g
 
 module _ (d : Digest) where
-  abbrev line : Entry → List ℕ
+  abbrev line : PathAndBytes → List ℕ
   line f = manifest_line (checksum_of d f)
 
   regroup : (u v w x y z : List ℕ) → ((((u ++ v) ++ w) ++ x) ++ y) ++ z ≡ u ++ (v ++ (w ++ (x ++ (y ++ (z ++ [])))))
   regroup u v w x y z = simp (append_assoc, append-nil)
 
-  pub five_lines : (p q r s t : Entry) (none one two three four five : List ℕ)
+  pub five_lines : (p q r s t : PathAndBytes) (none one two three four five : List ℕ)
       → one ≡ none ++ line p → two ≡ one ++ line q → three ≡ two ++ line r → four ≡ three ++ line s → five ≡ four ++ line t
       → five ≡ none ++ manifest_of d (p ∷ q ∷ r ∷ s ∷ t ∷ [])
   five_lines p q r s t none one two three four five e f g h k =

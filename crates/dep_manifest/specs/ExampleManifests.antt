@@ -1,9 +1,9 @@
 -- The manifests of a file of three bytes.
 use Rattle.std.specs.Prelude.{ℕ, List, [], ◌∷◌, ◌++◌, codes}
-use Rattle.dep_types.specs.Sinks.{Entry}
+use Rattle.dep_types.specs.Sinks.{PathAndBytes}
 
 -- the file
-abbrev pub example_files : List Entry
+abbrev pub example_files : List PathAndBytes
 example_files = (codes "data/1/50%.txt", codes "abc") ∷ []
 
 -- its line by SHA-256

@@ -1,12 +1,12 @@
 -- How many bytes manifests have.
 use Rattle.std.specs.Prelude.{◌≡◌, ℕ, ◌+◌, ◌-◌, ◌*◌, ◌^◌, ◌≤◌, min, List, length, map, Option, MatchOption}
-use Rattle.dep_types.specs.Sinks.{Entry}
+use Rattle.dep_types.specs.Sinks.{PathAndBytes}
 use Rattle.dep_manifest.specs.Manifest.{Digest, digest_by, encoded_path, manifest_of}
 use Rattle.dep_manifest.specs.declared.algorithm.Algorithm.{Algorithm}
 
 -- this is so of the length of the manifest of files at these paths, whatever stands there
 abbrev pub OfLength : Algorithm → (paths : List (List ℕ)) → (ℕ → Type 0) → Type 0
-OfLength a paths holds = (files : List Entry) → map (λ file. file.0) files ≡ paths
+OfLength a paths holds = (files : List PathAndBytes) → map (λ file. file.0) files ≡ paths
     → holds (length (manifest_of (digest_by a) files))
 
 -- the length is told, unless it is 2^64 - 1 or more

@@ -3,7 +3,7 @@ use Rattle.std.specs.Prelude.{◌≡◌, ℕ, ◌<◌, ◌==◌, List, [], ◌�
 use Rattle.sha2.specs.Sha256.{sha256}
 use Rattle.sha2.specs.Sha512.{sha512}
 use Rattle.hex.specs.Hex.{IsBytes, encode_lower}
-use Rattle.dep_types.specs.Sinks.{Entry}
+use Rattle.dep_types.specs.Sinks.{PathAndBytes}
 use Rattle.dep_manifest.specs.declared.algorithm.Algorithm.{Algorithm}
 use Rattle.dep_manifest.specs.declared.algorithm.Algorithm.TheVariants.{Sha256, Sha512}
 
@@ -49,7 +49,7 @@ pub record Checksum : Type 0 where
   pub value : List ℕ
 
 -- that of a file
-abbrev pub checksum_of : Digest → Entry → Checksum
+abbrev pub checksum_of : Digest → PathAndBytes → Checksum
 checksum_of d file = record { path = file.0; value = d.of file.1 }
 
 -- its line, by the digits of its digest
@@ -65,5 +65,5 @@ abbrev pub manifest : List Checksum → List ℕ
 manifest checksums = flat_map manifest_line checksums
 
 -- a line for each of these files
-abbrev pub manifest_of : Digest → List Entry → List ℕ
+abbrev pub manifest_of : Digest → List PathAndBytes → List ℕ
 manifest_of d files = manifest (map (checksum_of d) files)

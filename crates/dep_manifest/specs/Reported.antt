@@ -4,7 +4,7 @@ use Rattle.std.specs.List.{zip}
 use Rattle.dep_types.specs.BagPaths.{payload_path}
 use Rattle.dep_types.specs.declared.rows.FileRow.{FileRow}
 use Rattle.dep_types.specs.declared.rows.ObjectView.{ObjectView}
-use Rattle.dep_types.specs.Sinks.{Entry}
+use Rattle.dep_types.specs.Sinks.{PathAndBytes}
 use Rattle.dep_docs_out.specs.Documents.{bag_metadata_document}
 use Rattle.dep_manifest.specs.Manifest.{Checksum, checksum_of, digest_by, manifest, manifest_line, manifest_of}
 use Rattle.dep_manifest.specs.TagFiles.{bagit_text, oxum_text, info_text, manifest_path}
@@ -38,7 +38,7 @@ abbrev pub reported_manifest : Algorithm → ObjectView → List ℕ
 reported_manifest a view = manifest (row_checksums a view.files view.sha512s)
 
 -- the files that a tag manifest names
-abbrev pub reported_listed : ObjectView → List Entry
+abbrev pub reported_listed : ObjectView → List PathAndBytes
 reported_listed view =
     (codes "bagit.txt", bagit_text)
     ∷ (codes "bag-info.txt", reported_info view)
@@ -61,7 +61,7 @@ abbrev pub AreTagManifests : ObjectView → TagManifests → Type 0
 AreTagManifests view manifests = (a : Algorithm) → text_by a manifests ≡ reported_tag_manifest a view
 
 -- the line of a file was added to each of them
-abbrev pub AddsLines : (old new : TagManifests) → Entry → Type 0
+abbrev pub AddsLines : (old new : TagManifests) → PathAndBytes → Type 0
 AddsLines old new file = (a : Algorithm)
     → text_by a new ≡ text_by a old ++ manifest_line (checksum_of (digest_by a) file)
 

@@ -6,7 +6,7 @@ use Rattle.dep_head.specs.Head.{HeadParts, head_end, head_limit}
 use Rattle.dep_body.specs.declared.frame.Framing.{Framing}
 use Rattle.dep_message.specs.Giving.{BeginsWithHead}
 use Rattle.dep_message.specs.Places.{Reading, Open}
-use Rattle.dep_message.specs.Working.{IsUnsearched, IsItem, IsKnownProgress, IsAtHead, IsBegun, IsReadTo, ReadsChunks, Keeps, bytes_with, first_found, kept_bytes, reading_of}
+use Rattle.dep_message.specs.Working.{IsUnsearched, IsItem, IsKnownProgress, IsAtHead, IsBegun, IsReadTo, ReadsChunks, KeepsBytes, bytes_with, first_found, kept_bytes, reading_of}
 use Rattle.dep_message.specs.Stream.{IsRequestText, Waits}
 use Rattle.dep_message.specs.declared.first.FramedHead.{FramedHead}
 use Rattle.dep_message.specs.declared.intake.Standing.{Standing}
@@ -27,11 +27,11 @@ use Rattle.dep_message.proofs.SearchOn.{searched_none}
 
 -- the same bytes are kept, and the item that stands first in them was found
 abbrev pub IsFoundIn : (unparsed : Unparsed) → List ℕ → Unparsed → Type 0
-IsFoundIn unparsed bytes new = Keeps unparsed.limit unparsed.continued bytes new × IsReadTo unparsed.limit unparsed.continued bytes new.progress
+IsFoundIn unparsed bytes new = KeepsBytes unparsed.limit unparsed.continued bytes new × IsReadTo unparsed.limit unparsed.continued bytes new.progress
 
 -- with nothing known of the first request, the bytes are those of the buffer
 pub keeps_fresh : (limit : ℕ) (continued : Bool) (bytes : List ℕ) (unparsed : Unparsed) → IsUnsearched unparsed
-    → unparsed.limit ≡ limit → unparsed.continued ≡ continued → unparsed.buffer ≡ bytes → Keeps limit continued bytes unparsed
+    → unparsed.limit ≡ limit → unparsed.continued ≡ continued → unparsed.buffer ≡ bytes → KeepsBytes limit continued bytes unparsed
 keeps_fresh limit continued bytes unparsed fresh same_limit same_continued same_bytes = record {
   limit_is = same_limit;
   continued_is = same_continued;
@@ -51,23 +51,23 @@ keeps_searched unparsed new n new_is n_is waits =
 
 -- the head of a request was used, and the bytes behind it stand apart
 pub keeps_sized : (unparsed : Unparsed) (request : SizedRequest) → IsKnownProgress unparsed.limit unparsed.continued unparsed.buffer (Sized request)
-    → Keeps unparsed.limit unparsed.continued (request.used.items ++ request.behind) (record unparsed { progress = Sized request })
+    → KeepsBytes unparsed.limit unparsed.continued (request.used.items ++ request.behind) (record unparsed { progress = Sized request })
 keeps_sized unparsed request known = record { limit_is = refl; continued_is = refl; bytes_are = refl; known = known }
 
 -- the bytes of a request in chunks that were used, and others behind them
 pub keeps_chunked : (unparsed : Unparsed) (request : ChunkedRequest) → ReadsChunks unparsed.limit unparsed.continued request
-    → Keeps unparsed.limit unparsed.continued (request.used.items ++ unparsed.buffer) (record unparsed { progress = Chunked request })
+    → KeepsBytes unparsed.limit unparsed.continued (request.used.items ++ unparsed.buffer) (record unparsed { progress = Chunked request })
 keeps_chunked unparsed request reads = record { limit_is = refl; continued_is = refl; bytes_are = refl; known = reads }
 
 -- the same with no others
 pub keeps_used : (unparsed : Unparsed) (request : ChunkedRequest) (bytes : List ℕ) → ReadsChunks unparsed.limit unparsed.continued request → request.used.items ≡ bytes
-    → Keeps unparsed.limit unparsed.continued bytes (record unparsed { buffer = []; progress = Chunked request })
+    → KeepsBytes unparsed.limit unparsed.continued bytes (record unparsed { buffer = []; progress = Chunked request })
 keeps_used unparsed request bytes reads same =
     record { limit_is = refl; continued_is = refl; bytes_are = append-nil request.used.items ∙ same; known = reads }
 
 -- where memory is refused behind a head, nothing changes
 pub unchanged : (unparsed : Unparsed) (first : FramedHead) → IsAtHead unparsed first
-    → Keeps unparsed.limit unparsed.continued unparsed.buffer unparsed × BeginsWithHead unparsed.buffer
+    → KeepsBytes unparsed.limit unparsed.continued unparsed.buffer unparsed × BeginsWithHead unparsed.buffer
 unchanged unparsed first at = (
   keeps_fresh unparsed.limit unparsed.continued unparsed.buffer unparsed at.fresh refl refl refl,
   subst BeginsWithHead (take-append-drop first.length unparsed.buffer)
@@ -115,9 +115,9 @@ waits_behind limit continued bytes n head frame begun part =
 -- from here on the bytes behind the head stand apart
 pub keeps_apart : (old new : Unparsed) (n : ℕ) (request : SizedRequest) → IsBegun old.limit old.continued (take n old.buffer) request.head (Length request.length)
     → request.used.items ≡ take n old.buffer → request.behind ≡ drop n old.buffer → new ≡ record old { buffer = []; progress = Sized request }
-    → Keeps old.limit old.continued old.buffer new
+    → KeepsBytes old.limit old.continued old.buffer new
 keeps_apart old new n request begun used_is behind_is new_is =
-    subst (Keeps old.limit old.continued old.buffer) (sym new_is) (record {
+    subst (KeepsBytes old.limit old.continued old.buffer) (sym new_is) (record {
       limit_is = refl;
       continued_is = refl;
       bytes_are = ap (λ l. l ++ request.behind) used_is ∙ (ap (λ l. take n old.buffer ++ l) behind_is ∙ take-append-drop n old.buffer);
@@ -140,7 +140,7 @@ keeps_body unparsed new request used rest m begun within used_is rest_is content
 
 -- where memory is refused, the reading stands where it stood
 pub stands_still : (unparsed new : Unparsed) (standing : Standing) (reading : Reading) → standing ≡ Live → reading_of standing unparsed ≡ reading
-    → Keeps unparsed.limit unparsed.continued (kept_bytes unparsed) new
+    → KeepsBytes unparsed.limit unparsed.continued (kept_bytes unparsed) new
     → (reading_of standing new ≡ reading) × (Open unparsed.continued (kept_bytes unparsed) ≡ reading.place)
 stands_still unparsed new standing reading is_live was keeps =
     let is : reading_of Live unparsed ≡ reading = ap (λ (s : Standing). reading_of s unparsed) (sym is_live) ∙ was in

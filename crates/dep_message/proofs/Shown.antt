@@ -5,7 +5,7 @@ use Rattle.dep_message.specs.Heads.{closes}
 use Rattle.dep_message.specs.Places.{Place, Open, Reading}
 use Rattle.dep_message.specs.Showing.{IsNoRequest, ShowsNext}
 use Rattle.dep_message.specs.Stream.{Fault, Continue, Request, FirstAt, Waits, after_item}
-use Rattle.dep_message.specs.Working.{Finds, IsItem, IsKnownProgress, IsReadTo, Keeps, ShowsFound, bytes_with}
+use Rattle.dep_message.specs.Working.{FindsFirst, IsItem, IsKnownProgress, IsReadTo, KeepsBytes, ShowsFound, bytes_with}
 use Rattle.dep_message.specs.declared.intake.Step.{Step}
 use Rattle.dep_message.specs.declared.intake.Step.TheVariants as S
 use Rattle.dep_message.specs.declared.message.Message.{Message}
@@ -57,7 +57,7 @@ shows_found sees before after limit continued used buffer (F.Fault refusal head_
 
 -- what is shown of the bytes that are kept
 pub shows_kept : {X : Type 0} (sees : X → X → Message → Type 0) (before after : X) (limit : ℕ) (continued : Bool) (bytes : List ℕ) (unparsed : Unparsed)
-    → Keeps limit continued bytes unparsed → (first : FirstItem) → unparsed.progress ≡ First first → (shown : Bool) → ShowsFound sees before after first.item shown
+    → KeepsBytes limit continued bytes unparsed → (first : FirstItem) → unparsed.progress ≡ First first → (shown : Bool) → ShowsFound sees before after first.item shown
     → ShowsNext sees before after limit (Open continued bytes) shown
 shows_kept sees before after limit continued bytes unparsed keeps first is shown s =
     let known = subst (λ (p : Progress). IsKnownProgress unparsed.limit unparsed.continued unparsed.buffer p) is keeps.known in
@@ -70,7 +70,7 @@ shows_kept sees before after limit continued bytes unparsed keeps first is shown
 pub takes_found : (unparsed : Unparsed) (used : List ℕ) (item : Found) → IsItem unparsed.limit unparsed.continued used unparsed.buffer item
     → (progress : Progress) → progress ≡ Searched 0 → (reported : Bool)
     → ((item ≡ F.Continue) × (reported ≡ true)) ⊎ ((item ≡ F.Continue → ⊥) × (reported ≡ false))
-    → Finds unparsed.limit unparsed.continued (used ++ unparsed.buffer) (record unparsed { progress = progress; continued = reported }) (Some item)
+    → FindsFirst unparsed.limit unparsed.continued (used ++ unparsed.buffer) (record unparsed { progress = progress; continued = reported }) (Some item)
 takes_found unparsed used (F.Message m) is progress fresh reported (inl t) = absurd (cc (t.0))
 takes_found unparsed used (F.Message m) is progress fresh reported (inr t) = (
   used,
@@ -81,7 +81,7 @@ takes_found unparsed used (F.Message m) is progress fresh reported (inr t) = (
   keeps_fresh unparsed.limit false unparsed.buffer (record unparsed { progress = progress; continued = reported }) fresh refl t.1 refl,
 )
 takes_found unparsed used F.Continue is progress fresh reported (inl t) =
-    subst (λ (l : List ℕ). Finds unparsed.limit unparsed.continued (l ++ unparsed.buffer) (record unparsed { progress = progress; continued = reported }) (Some F.Continue)) (sym is.0)
+    subst (λ (l : List ℕ). FindsFirst unparsed.limit unparsed.continued (l ++ unparsed.buffer) (record unparsed { progress = progress; continued = reported }) (Some F.Continue)) (sym is.0)
     (is.1, keeps_fresh unparsed.limit true unparsed.buffer (record unparsed { progress = progress; continued = reported }) fresh refl t.1 refl)
 takes_found unparsed used F.Continue is progress fresh reported (inr t) = absurd (t.0 refl)
 takes_found unparsed used (F.Fault refusal head_only) is progress fresh reported t =

@@ -112,7 +112,7 @@ reading_of Closed unparsed = record { limit = unparsed.limit; place = Shut; is_d
 reading_of Dead unparsed = record { limit = unparsed.limit; place = Shut; is_dead = true }
 
 -- just these bytes are kept
-pub record Keeps (limit : ℕ) (continued : Bool) (bytes : List ℕ) (unparsed : Unparsed) : Type 0 where
+pub record KeepsBytes (limit : ℕ) (continued : Bool) (bytes : List ℕ) (unparsed : Unparsed) : Type 0 where
   pub limit_is : unparsed.limit ≡ limit
   pub continued_is : unparsed.continued ≡ continued
   pub bytes_are : kept_bytes unparsed ≡ bytes
@@ -153,26 +153,26 @@ IsReadOn unparsed = IsReadTo unparsed.limit unparsed.continued (kept_bytes unpar
 -- and a head is there to be copied
 abbrev pub ReadsOn : (old : Unparsed) (bytes : List ℕ) (new : Unparsed) → Result Unit AllocError → Type 0
 ReadsOn old bytes new result =
-    Keeps old.limit old.continued bytes new
+    KeepsBytes old.limit old.continued bytes new
     × MatchResult result (λ _. IsReadTo old.limit old.continued bytes new.progress)
     (λ _. BeginsWithHead bytes)
 
 -- what stands first in the bytes, and what is kept then
-abbrev pub Finds : ℕ → Bool → List ℕ → Unparsed → Option Found → Type 0
-Finds limit continued bytes new (Some (F.Message m)) =
+abbrev pub FindsFirst : ℕ → Bool → List ℕ → Unparsed → Option Found → Type 0
+FindsFirst limit continued bytes new (Some (F.Message m)) =
     (text : List ℕ) × (behind : List ℕ) × (bytes ≡ text ++ behind)
-    × IsRequestText limit continued text m × (0 < length text) × Keeps limit false behind new
-Finds limit continued bytes new (Some F.Continue) =
-    BeginsWith (IsContinueText limit continued) bytes × Keeps limit true bytes new
-Finds limit continued bytes new (Some (F.Fault refusal head_only)) =
+    × IsRequestText limit continued text m × (0 < length text) × KeepsBytes limit false behind new
+FindsFirst limit continued bytes new (Some F.Continue) =
+    BeginsWith (IsContinueText limit continued) bytes × KeepsBytes limit true bytes new
+FindsFirst limit continued bytes new (Some (F.Fault refusal head_only)) =
     BeginsWith (λ text. IsFaultText limit continued text refusal head_only) bytes × (new.limit ≡ limit)
     × IsWorking new
-Finds limit continued bytes new None =
-    Waits limit (Open continued bytes) × Keeps limit continued bytes new
+FindsFirst limit continued bytes new None =
+    Waits limit (Open continued bytes) × KeepsBytes limit continued bytes new
 
 -- what is found over these bytes: for lack of memory nothing changes, and a head is there to be copied
 abbrev pub FindsNext : (old : Unparsed) (bytes : List ℕ) (new : Unparsed)
     → Result (Option Found) AllocError → Type 0
 FindsNext old bytes new result =
-    MatchResult result (Finds old.limit old.continued bytes new)
-    (λ _. Keeps old.limit old.continued bytes new × BeginsWithHead bytes)
+    MatchResult result (FindsFirst old.limit old.continued bytes new)
+    (λ _. KeepsBytes old.limit old.continued bytes new × BeginsWithHead bytes)

@@ -5,7 +5,7 @@ ghost use Rattle.dep_message.specs.Heads.{is_head_only};
 ghost use Rattle.dep_message.specs.Places.{Open};
 ghost use Rattle.dep_message.specs.Showing.{ShowsNext};
 ghost use Rattle.dep_message.specs.Stream.{frame_refusal};
-ghost use Rattle.dep_message.specs.Working.{HasLeft, HasBodySize, FindsHead, IsAtHead, IsReadOn, Keeps, Finds, FindsNext, ReadsOn, IsSearched, IsWorking, first_found, kept_bytes};
+ghost use Rattle.dep_message.specs.Working.{HasLeft, HasBodySize, FindsHead, IsAtHead, IsReadOn, KeepsBytes, FindsFirst, FindsNext, ReadsOn, IsSearched, IsWorking, first_found, kept_bytes};
 ghost use Rattle.dep_message.specs.declared.progress.Progress.TheVariants.{Searched, Sized, Chunked};
 
 use crate::buffer::Buffer;
@@ -35,7 +35,7 @@ pub(crate) struct Unparsed {
 impl Unparsed {
     /// Nothing has come. A content may have at most `limit` bytes. It takes no memory.
     pub fn new(alloc: Global, limit: u64) -> Unparsed
-        ensures { Keeps limit false [] result }
+        ensures { KeepsBytes limit false [] result }
     {
         Unparsed {
             alloc,
@@ -50,9 +50,9 @@ impl Unparsed {
     pub fn feed(&mut self, piece: &[u8]) -> Result<(), AllocError>
         requires { IsWorking self.old }
         ensures ok { OnOk result
-            (Keeps self.old.limit self.old.continued (kept_bytes self.old ++ piece.now) self.new) }
+            (KeepsBytes self.old.limit self.old.continued (kept_bytes self.old ++ piece.now) self.new) }
         ensures err { OnErr result
-            (Keeps self.old.limit self.old.continued (kept_bytes self.old) self.new) }
+            (KeepsBytes self.old.limit self.old.continued (kept_bytes self.old) self.new) }
     {
         match &mut self.progress {
             Progress::Sized(request) => request.append(piece),
@@ -72,7 +72,7 @@ impl Unparsed {
     /// Shows the first request, where it has come whole, and takes nothing. It returns whether one was shown.
     pub fn preview<P: Preview>(&mut self, by: &mut P) -> Result<bool, AllocError>
         requires { IsWorking self.old }
-        ensures keeps { Keeps self.old.limit self.old.continued (kept_bytes self.old) self.new }
+        ensures keeps { KeepsBytes self.old.limit self.old.continued (kept_bytes self.old) self.new }
         ensures shows { MatchResult result
             (ShowsNext P.sees by.old by.new self.old.limit
             (Open self.old.continued (kept_bytes self.old)))
@@ -89,7 +89,7 @@ impl Unparsed {
     fn take(&mut self) -> Option<Found>
         requires known { IsWorking self.old }
         requires read { IsReadOn self.old }
-        ensures { Finds self.old.limit self.old.continued (kept_bytes self.old) self.new result }
+        ensures { FindsFirst self.old.limit self.old.continued (kept_bytes self.old) self.new result }
     {
         match mem::replace(&mut self.progress, Progress::Searched(0)) {
             Progress::First(first) => {

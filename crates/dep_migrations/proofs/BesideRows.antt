@@ -45,7 +45,7 @@ use Rattle.dep_migrations.specs.Beside.{AreFree, with_ours, AddsIndexes}
 use Rattle.dep_migrations.proofs.Placed.{ours, with_format, with_state, tables_are, state_tree, objects_tree, metadata_tree, files_tree, uploads_tree, segments_tree, timed_out_tree, blocks_tree, sha512s_tree, format_named, format_listed, state_named, state_listed, indexed_schema, indexed_rows, free_indexes}
 use Rattle.dep_tables.specs.Tables.{Tables, tables_of, tables_from}
 use Rattle.dep_tables.specs.Versions.{our_version}
-use Rattle.dep_migrations.specs.FirstTables.{Sees, no_schema, first_state, new_store_tables, IsBeside, GainsOurs}
+use Rattle.dep_migrations.specs.FirstTables.{SeesTables, no_schema, first_state, new_store_tables, IsBeside, GainsOurs}
 
 -- ---- how an INSERT is understood, by the table that its name finds
 
@@ -246,7 +246,7 @@ pub empty_ours : with_ours no_schema ≡ our_schema
 unfolding everything
 empty_ours = refl
 
-sees_first : (old new : State) → old.now.schema ≡ no_schema → GainsOurs old.now new.now → Sees new new_store_tables
+sees_first : (old new : State) → old.now.schema ≡ no_schema → GainsOurs old.now new.now → SeesTables new new_store_tables
 sees_first old new empty gained =
     let after = gained.made (subst HasCounters (sym empty) refl) in
     let schema : with_ours old.now.schema ≡ our_schema = ap with_ours empty ∙ empty_ours in
@@ -264,5 +264,5 @@ sees_first old new empty gained =
       rows = rows;
     }
 
-pub first_seen : {A E : Type 0} (r : Result A E) (old new : State) → old.now.schema ≡ no_schema → OnOk r (GainsOurs old.now new.now) → OnOk r (Sees new new_store_tables)
+pub first_seen : {A E : Type 0} (r : Result A E) (old new : State) → old.now.schema ≡ no_schema → OnOk r (GainsOurs old.now new.now) → OnOk r (SeesTables new new_store_tables)
 first_seen r old new empty gained = ok_then r gained (sees_first old new empty)

@@ -31,7 +31,7 @@ use Rattle.dep_migrations.proofs.Causes.{fails_then}
 use Rattle.dep_row_maps.specs.Owned.{put_each}
 use Rattle.dep_row_maps.specs.Sha512s.{value_rows}
 use Rattle.dep_migrations.specs.Beside.{with_tables, AddsIndexes, AreNewNamesFree}
-use Rattle.dep_migrations.specs.FirstTables.{Sees, no_schema}
+use Rattle.dep_migrations.specs.FirstTables.{SeesTables, no_schema}
 use Rattle.dep_migrations.specs.Upgrading.{with_no_sha512s, with_sha512s, FailsToPut}
 use Rattle.dep_migrations.specs.Upgrading.FailsToPut.{no_number, not_put}
 use Rattle.dep_migrations.proofs.Placed.{indexed_schema, indexed_sound, indexed_rows, free_indexes, keeps_then}
@@ -54,7 +54,7 @@ all_more P [] t all one = (one, tt)
 all_more P (u ∷ tables) t all one = (all.0, all_more P tables t all.1 one)
 
 -- the table and the indexes are made, and the other tables keep their rows
-pub extends : (old mid new : State) → IsOlder old → Adds sha512s_table old.now mid.now → AddsIndexes mid.now new.now → Sees new (with_no_sha512s (tables_of old))
+pub extends : (old mid new : State) → IsOlder old → Adds sha512s_table old.now mid.now → AddsIndexes mid.now new.now → SeesTables new (with_no_sha512s (tables_of old))
 extends old mid new older added both =
     let made = added.made (subst HasCounters (sym older.schema) refl) in
     let here : mid.now.schema ≡ with_tables no_schema = made.schema ∙ ap (λ s. created s sha512s_table) older.schema ∙ one_later in

@@ -24,8 +24,8 @@ pub record SeesOf (its : Schema) (s : State) (tables : Tables) : Type 0 where
   pub ours : IsOf its s
   pub rows : tables_of s ≡ tables
 
-abbrev pub Sees : State → Tables → Type 0
-Sees = SeesOf our_schema
+abbrev pub SeesTables : State → Tables → Type 0
+SeesTables = SeesOf our_schema
 
 abbrev pub first_state : StateRow
 first_state = record { clock = 0; next = record { object = 1; file = 1; upload = 1; change = 1 } }

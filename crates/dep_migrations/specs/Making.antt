@@ -1,7 +1,7 @@
 -- What the calls say that make the tables of a new store.
 use Rattle.std.specs.Prelude.{◌≡◌, IsTrue, Result, OnOk}
 use Rattle.dep_migrations.specs.Beside.{AreFree, with_ours}
-use Rattle.dep_migrations.specs.FirstTables.{no_schema, Sees, first_state, new_store_tables}
+use Rattle.dep_migrations.specs.FirstTables.{no_schema, SeesTables, first_state, new_store_tables}
 use Rattle.dep_statements.specs.Adding.{Puts}
 use Rattle.dep_tables.specs.Rows.{stored_format, stored_state}
 use Rattle.dep_tables.specs.Schema.{format_table}
@@ -33,4 +33,4 @@ module _ {A E : Type 0} (old new : State) (result : Result A E) where
   -- there, with no table at all, an Ok makes those of a new store
   abbrev pub MakesFirst : Type 0
   MakesFirst = HasCleanDisk new → IsTrue old.in_transaction → old.now.schema ≡ no_schema
-      → OnOk result (Sees new new_store_tables)
+      → OnOk result (SeesTables new new_store_tables)

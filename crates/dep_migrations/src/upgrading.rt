@@ -10,7 +10,7 @@ ghost use Rattle.dep_row_maps.specs.Clauses.{Becomes};
 ghost use Rattle.dep_row_maps.specs.Sha512s.{upgraded};
 ghost use Rattle.dep_migrations.specs.Beside.{AreNewNamesFree};
 ghost use Rattle.dep_migrations.specs.Causes.{FailsSince};
-ghost use Rattle.dep_migrations.specs.FirstTables.{Sees};
+ghost use Rattle.dep_migrations.specs.FirstTables.{SeesTables};
 ghost use Rattle.dep_migrations.specs.Running.{TurnsDatabase, WorksWithin};
 ghost use Rattle.dep_migrations.specs.Texts.{create_sha512s_text};
 ghost use Rattle.dep_migrations.specs.Upgrading.{with_no_sha512s, with_sha512s, FailsToExtend, FailsToPut, FailsToRewrite};
@@ -33,7 +33,7 @@ fn create_sha512s<T: Statements>(tx: &mut T) -> Result<(), StoreFault>
 fn extend_schema<T: Statements>(tx: &mut T) -> Result<(), StoreFault>
     ensures ok { HasCleanDisk (T.state tx.new) → IsTrue (T.state tx.old).in_transaction
         → IsOlder (T.state tx.old)
-        → OnOk result (Sees (T.state tx.new) (with_no_sha512s (tables_of (T.state tx.old)))) }
+        → OnOk result (SeesTables (T.state tx.new) (with_no_sha512s (tables_of (T.state tx.old)))) }
     ensures free { TurnsDatabase (T.state tx.old) (T.state tx.new) result
         (λ old _. AreNewNamesFree old.schema) }
     ensures works { WorksWithin T.lenders T.state tx.old tx.new result
@@ -59,7 +59,7 @@ fn insert_values<T: Statements>(tx: &mut T, values: &[FileSha512]) -> Result<(),
 pub fn upgrade_tables<T: Statements>(tx: &mut T, values: &[FileSha512]) -> Result<(), StoreFault>
     ensures ok { HasCleanDisk (T.state tx.new) → IsTrue (T.state tx.old).in_transaction
         → IsOlder (T.state tx.old)
-        → OnOk result (Sees (T.state tx.new) (upgraded values.now (tables_of (T.state tx.old)))) }
+        → OnOk result (SeesTables (T.state tx.new) (upgraded values.now (tables_of (T.state tx.old)))) }
     ensures free { TurnsDatabase (T.state tx.old) (T.state tx.new) result
         (λ old _. AreNewNamesFree old.schema) }
     ensures works { WorksWithin T.lenders T.state tx.old tx.new result

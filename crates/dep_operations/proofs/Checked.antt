@@ -20,7 +20,7 @@ use Rattle.dep_decisions.specs.Laws.{refusal_before_room}
 use Rattle.dep_decisions.specs.Rules.{access_refusal, content_by, content_refusal, digest_rule, digests_if_promised, document_refusal, document_rule, fields_refusal, has_content, size_refusal, size_rule}
 use Rattle.dep_decisions.specs.declared.operation.Operation.{Operation}
 use Rattle.dep_decisions.proofs.Taken.{content_taken}
-use Rattle.dep_operations.specs.Checks.{IsChecked}
+use Rattle.dep_operations.specs.Checks.{IsCheckedBy}
 use Rattle.dep_operations.specs.Seen.{in_view}
 use Rattle.dep_operations.specs.Views.{uploads_named}
 use Rattle.dep_operations.specs.declared.order.Checked.TheVariants.{Passed}
@@ -81,7 +81,7 @@ content_left config view op access has =
 
 -- and without a content nothing
 pub nothing_left : (config : Config) (view : View) (op : Operation) → access_refusal config (in_view view) op ≡ None → has_content op.target.method ≡ false
-    → IsChecked (refusal_before_room config (in_view view) op) op (Passed (record { metadata = None; digests = None }))
+    → IsCheckedBy (refusal_before_room config (in_view view) op) op (Passed (record { metadata = None; digests = None }))
 unfolding content_refusal
 nothing_left config view op access none = (
   ap (λ a. first_of (a ∷ content_refusal config (in_view view) op ∷ [])) access

@@ -26,7 +26,7 @@ use Rattle.dep_decisions.specs.Decisions.{decision_with, numbers_for, references
 use Rattle.dep_decisions.specs.Kinds.{content_kind}
 use Rattle.dep_decisions.specs.Laws as laws
 use Rattle.dep_decisions.specs.Laws.{refusal_before_room}
-use Rattle.dep_decisions.specs.LookUps.{Entry, Known, LookUps, assembled_digests, entry_at, has_bag_path, in_state, known_of, repeats, tag_at, without_digests, without_entries}
+use Rattle.dep_decisions.specs.LookUps.{Entry, KnownUpload, LookUps, assembled_digests, entry_at, has_bag_path, in_state, known_of, repeats, tag_at, without_digests, without_entries}
 use Rattle.dep_decisions.specs.Rules.{access_refusal, behalf_rule, content_by, content_refusal, digest_rule, digests_refusal, document_refusal, document_rule, each, entries_refusal, fields_refusal, has_content, has_digests, has_length, is_binary, length_refusal, missing_refusal, presence_refusal, presence_rule, reads_alone, received_refusal, references_refusal, refusal, refusal_by, room_rule, segment_by, segment_refusal, size_refusal, size_rule, occurs_twice, tag_refusal, tag_rule, there_refusal, unless, upload_refusal, when, whole_refusal}
 use Rattle.dep_decisions.specs.declared.operation.Operation.{Operation}
 use Rattle.dep_decisions.specs.declared.decision.Decision.{Decision}
@@ -88,7 +88,7 @@ tag_of row tag (Some x) = refl
 -- ---- references
 
 -- what is known of the uploads of a state, with their digests or without
-abbrev known_with : (hashed : Bool) → Known state.Upload
+abbrev known_with : (hashed : Bool) → KnownUpload state.Upload
 known_with hashed = record known_of { digests = λ u. if hashed then assembled_digests u else None }
 
 abbrev looked_up : (hashed : Bool) → State → LookUps state.Upload

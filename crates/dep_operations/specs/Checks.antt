@@ -2,7 +2,7 @@
 use Rattle.std.specs.Prelude.{◌≡◌, Option, Some, None}
 use Rattle.dep_types.specs.declared.config.Config.{Config}
 use Rattle.dep_types.specs.declared.refusal.Refusal.{Refusal}
-use Rattle.dep_decisions.specs.Asked.{IsRead}
+use Rattle.dep_decisions.specs.Asked.{IsContentRead}
 use Rattle.dep_decisions.specs.Decisions.{decision_with}
 use Rattle.dep_decisions.specs.Rules.{room_rule}
 use Rattle.dep_decisions.specs.declared.operation.Operation.{Operation}
@@ -14,9 +14,9 @@ use Rattle.dep_operations.specs.declared.ruling.Ruling.TheVariants.{Do, Refuse}
 use Rattle.dep_operations.specs.declared.view.View.{View}
 
 -- refused for what these rules refuse it for, or passed where they refuse nothing, and then read so far
-abbrev pub IsChecked : (refused : Option Refusal) → Operation → Checked → Type 0
-IsChecked refused op (Refused r) = refused ≡ Some r
-IsChecked refused op (Passed read) = (refused ≡ None) × IsRead op read
+abbrev pub IsCheckedBy : (refused : Option Refusal) → Operation → Checked → Type 0
+IsCheckedBy refused op (Refused r) = refused ≡ Some r
+IsCheckedBy refused op (Passed read) = (refused ≡ None) × IsContentRead op read
 
 -- whether the numbers can be given, and then what is asked for
 abbrev pub IsRoomRuling : Config → View → Operation → Ruling → Type 0

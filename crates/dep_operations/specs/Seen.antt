@@ -7,7 +7,7 @@ use Rattle.dep_fixity.specs.declared.field.DigestList.{DigestList}
 use Rattle.dep_docs_in.specs.declared.reference.Reference.{Reference}
 use Rattle.dep_docs_in.specs.declared.reference.Pointed.{Pointed}
 use Rattle.dep_docs_in.specs.declared.reference.Pointed.TheVariants.{Upload as AnUpload, Elsewhere}
-use Rattle.dep_decisions.specs.LookUps.{Entry, Known, LookUps}
+use Rattle.dep_decisions.specs.LookUps.{Entry, KnownUpload, LookUps}
 use Rattle.dep_operations.specs.declared.view.View.{View}
 use Rattle.dep_operations.specs.declared.view.LiveUpload.{LiveUpload}
 use Rattle.dep_operations.specs.declared.view.UploadView.{UploadView}
@@ -61,7 +61,7 @@ unfoldable pub entries_seen : List Reference → List UploadView → List (Entry
 entries_seen [] views = []
 entries_seen (r ∷ refs) views = entry_before (entries_seen refs) r r.target views
 
-abbrev pub known_live : Known LiveUpload
+abbrev pub known_live : KnownUpload LiveUpload
 known_live = record {
   size = λ l. l.row.size;
   count = λ l. l.row.count;

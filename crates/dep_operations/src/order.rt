@@ -2,12 +2,12 @@
 ghost use Rattle.std.specs.Prelude.{◌≡◌, IfOk, IfSome, option_map};
 ghost use Rattle.dep_types.specs.declared.config.Config.{Config};
 ghost use Rattle.dep_fixity.specs.Fixity.{digests_of};
-ghost use Rattle.dep_decisions.specs.Asked.{IsRead};
+ghost use Rattle.dep_decisions.specs.Asked.{IsContentRead};
 ghost use Rattle.dep_decisions.specs.Kinds.{content_kind};
 ghost use Rattle.dep_decisions.specs.Purposes.{kind_for};
 ghost use Rattle.dep_decisions.specs.Laws.{refusal_before_room};
 ghost use Rattle.dep_decisions.specs.Rules.{access_refusal, content_by, document_rule, has_content, reads_alone};
-ghost use Rattle.dep_operations.specs.Checks.{IsChecked, IsRoomRuling};
+ghost use Rattle.dep_operations.specs.Checks.{IsCheckedBy, IsRoomRuling};
 ghost use Rattle.dep_operations.specs.Seen.{in_view};
 ghost use Rattle.dep_operations.specs.Rulings.{HasRoomFor, RefusesUndigested, RefusesUnnamed, RulesBy};
 
@@ -90,7 +90,7 @@ fn check(
 ) -> Result<Checked, AllocError>
     requires { option_map kind_for purpose ≡ content_kind operation.now }
     ensures { IfOk result
-        (IsChecked (refusal_before_room config.now (in_view view.now) operation.now) operation.now) }
+        (IsCheckedBy (refusal_before_room config.now (in_view view.now) operation.now) operation.now) }
 {
     if let Some(refusal) = access_rule(config, view, operation) {
         return Ok(Checked::Refused(refusal));
@@ -152,7 +152,7 @@ fn check_content(
 ) -> Result<Checked, AllocError>
     requires { option_map kind_for purpose ≡ content_kind operation.now }
     ensures { IfOk result
-        (IsChecked (content_by config.now (in_view view.now) operation.now) operation.now) }
+        (IsCheckedBy (content_by config.now (in_view view.now) operation.now) operation.now) }
 {
     if let Some(refusal) = fields_rule(operation, purpose) {
         return Ok(Checked::Refused(refusal));
@@ -181,7 +181,7 @@ fn check_document(
     requires purpose { option_map kind_for purpose ≡ content_kind operation.now }
     requires digests { IfSome digests (λ d. d ≡ digests_of operation.now.content) }
     ensures { (config : Config) → IfOk result
-        (IsChecked (document_rule config (in_view view.now) operation.now) operation.now) }
+        (IsCheckedBy (document_rule config (in_view view.now) operation.now) operation.now) }
 {
     match purpose {
         Some(Purpose::Metadata) => match read_metadata(alloc, operation.content.as_slice()) {
@@ -217,7 +217,7 @@ fn rule_by_room(
     read: ReadContent,
 ) -> Result<Ruling, AllocError>
     requires purpose { option_map kind_for purpose ≡ content_kind operation.now }
-    requires read { IsRead operation.now read }
+    requires read { IsContentRead operation.now read }
     ensures { (config : Config) → IfOk result (IsRoomRuling config view.now operation.now) }
 {
     let decision = decision_on(alloc, operation, purpose, view.references.as_ref(), read)?;

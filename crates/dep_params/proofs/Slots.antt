@@ -8,7 +8,7 @@ use Rattle.std.specs.Result.{IsErrAnd, IfErr}
 use Rattle.std.specs.Str.{str_to_ascii_lowercase}
 use Rattle.dep_octets.specs.Octets.{is_token, is_token_octet, is_blank, trim_start}
 use Rattle.dep_params.specs.Grammar.{NamedValue, value_text, value_octets, is_bare_octet, ParameterSlot, Empty, Holds, IsSlot, slot_text, slot_parameter, are_blanks, AreParameters}
-use Rattle.dep_params.specs.Reading.{Fails, Refuses, at_semicolon, semicolon_read, token_len, parameter_read, named, behind_name}
+use Rattle.dep_params.specs.Reading.{IsReadingFault, RefusesParameters, at_semicolon, semicolon_read, token_len, parameter_read, named, behind_name}
 use Rattle.dep_params.specs.declared.disposition.ParamFault.{ParamFault}
 use Rattle.dep_params.specs.declared.disposition.ParamFault.TheVariants.{Malformed, Repeated, NoName, Memory}
 use Rattle.dep_params.proofs.Runs.{and_both, same_number, chosen, drop-run, run-passes}
@@ -308,14 +308,14 @@ parameter-shorter text rest p some h =
 
 -- what one place means for the parameters before it and behind it
 pub refuses-semicolon : (text rest : List ℕ) (e : ParamFault) → ((ps : List NamedValue) → AreParameters text ps → (more : List NamedValue) × AreParameters rest more)
-    → Fails e (semicolon_read rest) → Refuses text e
+    → IsReadingFault e (semicolon_read rest) → RefusesParameters text e
 refuses-semicolon text rest Malformed left h = λ ps is. let more = left ps is in no-semicolon rest more.0 h more.1
 refuses-semicolon text rest Repeated left h = h
 refuses-semicolon text rest NoName left h = h
 refuses-semicolon text rest Memory left h = h
 
 pub refuses-parameter : (text rest r : List ℕ) (e : ParamFault) → ((ps : List NamedValue) → AreParameters text ps → (more : List NamedValue) × AreParameters rest more)
-    → semicolon_read rest ≡ Some (Some r) → (token_len r ≡ 0 → ⊥) → Fails e (parameter_read r) → Refuses text e
+    → semicolon_read rest ≡ Some (Some r) → (token_len r ≡ 0 → ⊥) → IsReadingFault e (parameter_read r) → RefusesParameters text e
 refuses-parameter text rest r Malformed left found some h = λ ps is. let more = left ps is in no-parameter rest r more.0 found some h more.1
 refuses-parameter text rest r Repeated left found some h = h
 refuses-parameter text rest r NoName left found some h = h
@@ -340,6 +340,6 @@ unfolding parameter_read
 parameter-behind text name behind is rest =
     ap (λ (n : List ℕ). named n (behind_name behind)) is ∙ ap (λ (d : List ℕ). named (take (token_len text) text) (behind_name d)) rest
 
-pub refused_by : {A : Type 0} (result : Result A ParamFault) (text : List ℕ) (e : ParamFault) → IsErrAnd result (λ f. f ≡ e) → Refuses text e → IfErr result (Refuses text)
+pub refused_by : {A : Type 0} (result : Result A ParamFault) (text : List ℕ) (e : ParamFault) → IsErrAnd result (λ f. f ≡ e) → RefusesParameters text e → IfErr result (RefusesParameters text)
 refused_by (Ok a) text e h is = tt
-refused_by (Err f) text e h is = subst (Refuses text) (sym h) is
+refused_by (Err f) text e h is = subst (RefusesParameters text) (sym h) is

@@ -8,22 +8,22 @@ use Rattle.dep_params.specs.declared.disposition.ParamFault.{ParamFault}
 use Rattle.dep_params.specs.declared.disposition.ParamFault.TheVariants.{Malformed, Repeated, NoName, Memory}
 
 -- the fault says that nothing can be read, or that memory was refused
-abbrev pub Fails : {X : Type 0} → ParamFault → Option X → Type 0
-Fails Malformed read = read ≡ None
-Fails Repeated read = ⊥
-Fails NoName read = ⊥
-Fails Memory read = Unit {0}
+abbrev pub IsReadingFault : {X : Type 0} → ParamFault → Option X → Type 0
+IsReadingFault Malformed read = read ≡ None
+IsReadingFault Repeated read = ⊥
+IsReadingFault NoName read = ⊥
+IsReadingFault Memory read = Unit {0}
 
 -- what is read, as the code has it, or a fault that says so
 abbrev pub Gives : {X Y : Type 0} → (Y → X) → Result Y ParamFault → Option X → Type 0
-Gives shown result read = MatchResult result (λ y. read ≡ Some (shown y)) (λ e. Fails e read)
+Gives shown result read = MatchResult result (λ y. read ≡ Some (shown y)) (λ e. IsReadingFault e read)
 
 -- the fault says that the text has no parameters, or that memory was refused
-abbrev pub Refuses : List ℕ → ParamFault → Type 0
-Refuses text Malformed = (ps : List NamedValue) → ¬ AreParameters text ps
-Refuses text Repeated = ⊥
-Refuses text NoName = ⊥
-Refuses text Memory = Unit {0}
+abbrev pub RefusesParameters : List ℕ → ParamFault → Type 0
+RefusesParameters text Malformed = (ps : List NamedValue) → ¬ AreParameters text ps
+RefusesParameters text Repeated = ⊥
+RefusesParameters text NoName = ⊥
+RefusesParameters text Memory = Unit {0}
 
 -- the octet before the others that are read
 abbrev pub with_octet : ℕ → Option (List ℕ × List ℕ) → Option (List ℕ × List ℕ)

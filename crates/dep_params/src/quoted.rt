@@ -1,7 +1,7 @@
 //! Quoted strings.
 ghost use Rattle.std.specs.Prelude.{◌≡◌, ◌<◌, true, false, length, MatchResult, IfOk};
 ghost use Rattle.dep_params.specs.Grammar.{is_control};
-ghost use Rattle.dep_params.specs.Reading.{Fails, Gives, quoted, stepped};
+ghost use Rattle.dep_params.specs.Reading.{IsReadingFault, Gives, quoted, stepped};
 
 use crate::disposition::ParamFault;
 use std::alloc::Global;
@@ -26,7 +26,7 @@ pub(crate) fn read_quoted(alloc: Global, text: &[u8]) -> Result<(Vec<u8>, &[u8])
 #[tactic(auto, unfolding(crate::specs::Reading::quoted))]
 fn next_octet(text: &[u8]) -> Result<(Option<u8>, &[u8]), ParamFault>
     ensures read { MatchResult result (λ x. quoted false text.now ≡ stepped x.0 x.1.now)
-        (λ e. Fails e (quoted false text.now)) }
+        (λ e. IsReadingFault e (quoted false text.now)) }
     ensures shorter { IfOk result (λ x. length x.1.now < length text.now) }
 {
     let Some((first, after)) = text.split_first() else {
@@ -44,7 +44,7 @@ fn next_octet(text: &[u8]) -> Result<(Option<u8>, &[u8]), ParamFault>
 #[tactic(auto, unfolding(crate::specs::Reading::quoted))]
 fn escaped_octet(text: &[u8]) -> Result<(Option<u8>, &[u8]), ParamFault>
     ensures read { MatchResult result (λ x. quoted true text.now ≡ stepped x.0 x.1.now)
-        (λ e. Fails e (quoted true text.now)) }
+        (λ e. IsReadingFault e (quoted true text.now)) }
     ensures shorter { IfOk result (λ x. length x.1.now < length text.now) }
 {
     match text.split_first() {

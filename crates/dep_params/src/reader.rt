@@ -4,7 +4,7 @@ ghost use Rattle.std.specs.List.{IsDistinct};
 ghost use Rattle.std.specs.Option.{option_copied};
 ghost use Rattle.dep_params.specs.Grammar.{AreParameters, HasDistinctNames, IsDisposition, NamedValue, DispositionValue};
 ghost use Rattle.dep_params.specs.Failing.{ReportsRepeats};
-ghost use Rattle.dep_params.specs.Reading.{Gives, Refuses, behind_name, named, semicolon_read, token_len, value_read};
+ghost use Rattle.dep_params.specs.Reading.{Gives, RefusesParameters, behind_name, named, semicolon_read, token_len, value_read};
 ghost use Rattle.dep_params.specs.Stored.{names_in, view, views};
 
 use crate::disposition::{Disposition, ParamFault, Parameter};
@@ -42,7 +42,7 @@ pub fn read_disposition(alloc: Global, text: &[u8]) -> Result<Disposition, Param
 
 fn read_parameters(alloc: Global, text: &[u8]) -> Result<Vec<Parameter>, ParamFault>
     ensures read { IfOk result (λ ps. AreParameters text.now (views ps.items)) }
-    ensures refused { IfErr result (Refuses text.now) }
+    ensures refused { IfErr result (RefusesParameters text.now) }
 {
     let mut parameters = Vec::new(alloc);
     let mut rest = text;

@@ -7,8 +7,8 @@ use Rattle.std.specs.List.{FoldsTo}
 use Rattle.dep_types.specs.Conditions.{Condition}
 use Rattle.dep_types.specs.declared.inlet.LastRead.TheVariants.{NoneYet}
 use Rattle.dep_hub.specs.Representing.{RepresentsAfter, ServesAs, IsClean}
-use Rattle.dep_connection.specs.Turns.{Turn, records_of, ArePieces}
-use Rattle.dep_connection.specs.Conversation.{Outflow, Wire, session, Clocks, Converses, ConversesOver}
+use Rattle.dep_connection.specs.Turns.{ServedPiece, records_of, ArePieces}
+use Rattle.dep_connection.specs.Conversation.{Outflow, WireState, session, Clocks, Converses, ConversesOver}
 use Rattle.dep_connection.specs.declared.connection.Served.{Served}
 use Rattle.dep_connection.specs.declared.connection.Served.TheVariants.{Ended, Closed, Unserved, ReadFault, WriteFault, Bound}
 use Rattle.dep_hub.specs.declared.hub.Hub.{Hub}
@@ -41,7 +41,7 @@ module _ {A : Type 0} (condition : A → Condition) {C : Type 0} (ticks : C → 
   }
 
   module _ (now later : C) (mid new : Hub A) (count : ℕ) (p : ProgressLine now mid count) (back : IsClean condition new → IsClean condition mid) where
-    unserved_more : (may_commit : A → Bool) (before after : Wire) → ConversesOver condition may_commit AnyOut ticks (session mid before now) (session new after later) Unserved → ProgressLine later new (count + 1)
+    unserved_more : (may_commit : A → Bool) (before after : WireState) → ConversesOver condition may_commit AnyOut ticks (session mid before now) (session new after later) Unserved → ProgressLine later new (count + 1)
     unserved_more may_commit before after v = record {
       talks = p.talks;
       among = (p.among.0 + 1, let e = p.among.1 in omega arith);
@@ -53,7 +53,7 @@ module _ {A : Type 0} (condition : A → Condition) {C : Type 0} (ticks : C → 
       moments = subst (λ c. Clocks ticks clock (all_turns_of p.talks) c) (sym v.same_clock) p.moments;
     }
 
-    talk_more : (may_commit : A → Bool) (before after : Wire) (end : Served) → Converses condition may_commit AnyOut ticks (session mid before now) (session new after later) end → ProgressLine later new (count + 1)
+    talk_more : (may_commit : A → Bool) (before after : WireState) (end : Served) → Converses condition may_commit AnyOut ticks (session mid before now) (session new after later) end → ProgressLine later new (count + 1)
     talk_more may_commit before after end v =
         let talk : Conversation = record { number = v.number; turns = v.turns } in
         let long = length-append p.talks (talk ∷ []) in
@@ -68,10 +68,10 @@ module _ {A : Type 0} (condition : A → Condition) {C : Type 0} (ticks : C → 
                 (v.adds clean first (records ++ all_records_of p.talks) (p.these.adds (back clean) first records h));
           };
           moments = subst (λ turns. Clocks ticks clock turns later) (flat_map_more (λ (t : Conversation). t.turns) [] p.talks talk)
-              (folds_join (λ before (t : Turn) after. ticks before t.moment after) clock (all_turns_of p.talks) v.turns now later p.moments v.moments);
+              (folds_join (λ before (t : ServedPiece) after. ticks before t.moment after) clock (all_turns_of p.talks) v.turns now later p.moments v.moments);
         }
 
-    more : (may_commit : A → Bool) (served : Served) (before after : Wire) → ConversesOver condition may_commit AnyOut ticks (session mid before now) (session new after later) served → ProgressLine later new (count + 1)
+    more : (may_commit : A → Bool) (served : Served) (before after : WireState) → ConversesOver condition may_commit AnyOut ticks (session mid before now) (session new after later) served → ProgressLine later new (count + 1)
     more may_commit Unserved before after v = unserved_more may_commit before after v
     more may_commit Ended before after v = talk_more may_commit before after Ended v
     more may_commit Closed before after v = talk_more may_commit before after Closed v
@@ -84,7 +84,7 @@ module _ {A : Type 0} (condition : A → Condition) {C : Type 0} (ticks : C → 
 
 -- a connection over a socket at which nothing was read, and to which nothing was written
 pub over_socket : {A : Type 0} (condition : A → Condition) (may_commit : A → Bool) (shown : Outflow → Type 0) {C : Type 0} (ticks : C → ℕ → C → Type 0) (clock now : C) (old new : Hub A) (end : Served)
-    (before after : Wire) → before.unread ≡ None → before.reads ≡ 0 → before.last ≡ NoneYet
+    (before after : WireState) → before.unread ≡ None → before.reads ≡ 0 → before.last ≡ NoneYet
     → before.out.taken ≡ None → before.out.failures ≡ 0 → before.out.held ≡ [] → before.out.has_failed ≡ false
     → ConversesOver condition may_commit shown ticks (session old before clock) (session new after now) end
     → ServesAs condition old new → ServesOne condition may_commit ticks clock now old new end
@@ -94,7 +94,7 @@ over_socket condition may_commit shown ticks clock now old new end before after 
     record {
       goes = goes;
       after = after;
-      converses = subst (λ (w : Wire). ConversesOver condition may_commit AnyOut ticks (session old w clock) (session new after now) end) same
+      converses = subst (λ (w : WireState). ConversesOver condition may_commit AnyOut ticks (session old w clock) (session new after now) end) same
           (converses_wider condition may_commit shown AnyOut (λ o its. tt) ticks (session old before clock) (session new after now) end converses);
     }
 

@@ -13,11 +13,11 @@ use Rattle.dep_program.specs.declared.command.Job.TheVariants as job
 
 -- a moment and a base to replay at; a port, a file, and a count of connections to serve; a file, an object and a
 -- folder to export it into; a file to audit
-pub data Asked : Type 0 where
-  replay : (moment : ℕ) → (base : List ℕ) → Asked
-  serve : (port : ℕ) → (file : List ℕ) → (count : ℕ) → Asked
-  export : (file : List ℕ) → (object : ℕ) → (folder : List ℕ) → Asked
-  audit : (file : List ℕ) → Asked
+pub data AskedCommand : Type 0 where
+  replay : (moment : ℕ) → (base : List ℕ) → AskedCommand
+  serve : (port : ℕ) → (file : List ℕ) → (count : ℕ) → AskedCommand
+  export : (file : List ℕ) → (object : ℕ) → (folder : List ℕ) → AskedCommand
+  audit : (file : List ℕ) → AskedCommand
 
 -- the moment of a word, in whole seconds since 1970
 abbrev pub moment_of : List ℕ → Option ℕ
@@ -36,27 +36,27 @@ abbrev pub count_in : List ℕ → Option ℕ
 count_in word = from_one (value_of (decimal_number word 1000000))
 
 -- what the words after each name ask for, if they do
-abbrev pub replay_of : List (List ℕ) → Option Asked
+abbrev pub replay_of : List (List ℕ) → Option AskedCommand
 replay_of (moment ∷ base ∷ []) = option_map (λ m. replay m base) (moment_of moment)
 replay_of _ = None
 
-abbrev pub serve_at : Option ℕ → List ℕ → Option ℕ → Option Asked
+abbrev pub serve_at : Option ℕ → List ℕ → Option ℕ → Option AskedCommand
 serve_at None file count = None
 serve_at (Some port) file count = option_map (λ c. serve port file c) count
 
-abbrev pub serve_of : List (List ℕ) → Option Asked
+abbrev pub serve_of : List (List ℕ) → Option AskedCommand
 serve_of (port ∷ file ∷ count ∷ []) = serve_at (port_of port) file (count_in count)
 serve_of _ = None
 
-abbrev pub export_of : List (List ℕ) → Option Asked
+abbrev pub export_of : List (List ℕ) → Option AskedCommand
 export_of (file ∷ object ∷ folder ∷ []) = option_map (λ n. export file n folder) (number_in object)
 export_of _ = None
 
-abbrev pub audit_of : List (List ℕ) → Option Asked
+abbrev pub audit_of : List (List ℕ) → Option AskedCommand
 audit_of (file ∷ []) = Some (audit file)
 audit_of _ = None
 
-abbrev pub command_named : (name : List ℕ) → List (List ℕ) → Option Asked
+abbrev pub command_named : (name : List ℕ) → List (List ℕ) → Option AskedCommand
 command_named name words =
     if bytes_eq name (codes "replay") then replay_of words
     else if bytes_eq name (codes "serve") then serve_of words
@@ -65,18 +65,18 @@ command_named name words =
     else None
 
 -- what the words ask for, if they do
-abbrev pub asked_of : List (List ℕ) → Option Asked
+abbrev pub asked_of : List (List ℕ) → Option AskedCommand
 asked_of [] = None
 asked_of (name ∷ words) = command_named name words
 
 -- what a job over the store in a file is
-abbrev pub asked_over : (file : List ℕ) → Job → Asked
+abbrev pub asked_over : (file : List ℕ) → Job → AskedCommand
 asked_over file (job.Serve options) = serve options.port file options.count
 asked_over file (job.Export object folder) = export file object folder.now
 asked_over file job.Audit = audit file
 
 -- what a command is
-abbrev pub asked_in : Command → Asked
+abbrev pub asked_in : Command → AskedCommand
 asked_in (command.Replay moment base) = replay moment base.now
 asked_in (command.WorkOn file its) = asked_over file.now its
 

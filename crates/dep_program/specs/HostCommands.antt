@@ -4,11 +4,11 @@ use Rattle.dep_program.specs.declared.host_command.HostCommand.{HostCommand}
 use Rattle.dep_program.specs.declared.host_command.HostCommand.TheVariants as command
 
 -- a configuration file is served or looked at, or an example of one or the version is printed
-pub data Asked : Type 0 where
-  serve : (file : List ℕ) → Asked
-  check : (file : List ℕ) → Asked
-  example : Asked
-  version : Asked
+pub data AskedHostCommand : Type 0 where
+  serve : (file : List ℕ) → AskedHostCommand
+  check : (file : List ℕ) → AskedHostCommand
+  example : AskedHostCommand
+  version : AskedHostCommand
 
 -- a word that begins with a hyphen names no file
 abbrev pub is_option : List ℕ → Bool
@@ -16,7 +16,7 @@ is_option [] = false
 is_option (c ∷ word) = c == 45
 
 -- what one word asks for
-abbrev pub asked_of_one : List ℕ → Option Asked
+abbrev pub asked_of_one : List ℕ → Option AskedHostCommand
 asked_of_one word =
     if bytes_eq word (codes "--example") then Some example
     else if bytes_eq word (codes "--version") then Some version
@@ -24,14 +24,14 @@ asked_of_one word =
     else Some (serve word)
 
 -- what the words ask for, if they do
-abbrev pub asked_of : List (List ℕ) → Option Asked
+abbrev pub asked_of : List (List ℕ) → Option AskedHostCommand
 asked_of (word ∷ []) = asked_of_one word
 asked_of (word ∷ file ∷ []) =
     if bytes_eq word (codes "--check") then Some (check file) else None
 asked_of _ = None
 
 -- what a command is
-abbrev pub asked_in : HostCommand → Asked
+abbrev pub asked_in : HostCommand → AskedHostCommand
 asked_in (command.Serve file) = serve file.now
 asked_in (command.Check file) = check file.now
 asked_in command.Example = example

@@ -3,8 +3,8 @@ use Rattle.std.specs.Prelude.{◌≡◌, ◌⊎◌, ◌<◌, ◌+◌, ℕ, Bool,
 use Rattle.std.specs.List.{flat_map}
 use Rattle.dep_exchange.specs.Records.{Record}
 use Rattle.dep_hub.specs.Representing.{ServesAs}
-use Rattle.dep_connection.specs.Turns.{Turn, records_of, ArePieces}
-use Rattle.dep_connection.specs.Conversation.{Outflow, Wire, session, AddsRecords, Clocks, ConversesOver}
+use Rattle.dep_connection.specs.Turns.{ServedPiece, records_of, ArePieces}
+use Rattle.dep_connection.specs.Conversation.{Outflow, WireState, session, AddsRecords, Clocks, ConversesOver}
 use Rattle.dep_types.specs.Conditions.{Condition}
 use Rattle.dep_types.specs.declared.inlet.LastRead.TheVariants.{NoneYet}
 use Rattle.dep_hub.specs.declared.hub.Hub.{Hub}
@@ -15,14 +15,14 @@ use Rattle.dep_program.specs.declared.outcome.Outcome.TheVariants.{Done, Transfe
 -- a connection that was opened: its number, and its turns
 pub record Conversation : Type 0 where
   pub number : ℕ
-  pub turns : List Turn
+  pub turns : List ServedPiece
 
 -- the records of connections, one connection after another
 abbrev pub all_records_of : List Conversation → List Record
 all_records_of talks = flat_map (λ t. records_of t.number t.turns) talks
 
 -- all turns of connections, in the same order
-abbrev pub all_turns_of : List Conversation → List Turn
+abbrev pub all_turns_of : List Conversation → List ServedPiece
 all_turns_of talks = flat_map (λ t. t.turns) talks
 
 -- so many connections, of which some could not be opened
@@ -40,7 +40,7 @@ abbrev pub socket_out : Outflow
 socket_out = record { taken = None; failures = 0; held = []; has_failed = false }
 
 -- the same socket: it doesn't show either what it will give
-abbrev pub socket_wire : Wire
+abbrev pub socket_wire : WireState
 socket_wire = record { unread = None; reads = 0; last = NoneYet; out = socket_out }
 
 -- an outlet that may stand in every way
@@ -52,7 +52,7 @@ module _ {A : Type 0} (condition : A → Condition) where
   pub record ServesOne (may_commit : A → Bool) {C : Type 0} (ticks : C → ℕ → C → Type 0) (clock now : C)
       (old new : Hub A) (served : Served) : Type 0 where
     pub goes : ServesAs condition old new
-    pub after : Wire
+    pub after : WireState
     pub converses : ConversesOver condition may_commit AnyOut ticks
         (session old socket_wire clock)
         (session new after now) served
@@ -64,9 +64,9 @@ module _ {A : Type 0} (condition : A → Condition) where
     pub adds : AddsRecords condition old new (all_records_of talks)
 
   -- connections are served, each piece at the clock's answer
-  abbrev pub Serves : {C : Type 0} → (ticks : C → ℕ → C → Type 0) → (clock : C)
+  abbrev pub ServesAtClock : {C : Type 0} → (ticks : C → ℕ → C → Type 0) → (clock : C)
       → (old new : Hub A) → (count : ℕ) → Outcome → Type 0
-  Serves {C} ticks clock old new count outcome = (talks : List Conversation)
+  ServesAtClock {C} ticks clock old new count outcome = (talks : List Conversation)
       × AreServed talks count outcome × ServesThese old new talks
       × ((last : C) × Clocks ticks clock (all_turns_of talks) last)
 

@@ -1,6 +1,6 @@
 //! Connections over sockets, one after another.
 ghost use Rattle.dep_hub.specs.Representing.{ServesAs};
-ghost use Rattle.dep_program.specs.Serves.{Serves, ServesOne};
+ghost use Rattle.dep_program.specs.Serves.{ServesAtClock, ServesOne};
 
 use crate::gathered::Gathered;
 use crate::outcome::Outcome;
@@ -22,7 +22,7 @@ pub fn serve_on<A: Archive, C: FnMut() -> Moment>(
 ) -> Outcome
     requires { C.IsAlwaysCallable clock }
     ensures goes { ServesAs A.condition hub.old hub.new }
-    ensures serves { Serves A.condition C.step clock hub.old hub.new count result }
+    ensures serves { ServesAtClock A.condition C.step clock hub.old hub.new count result }
 {
     for _ in 0..count {
         let Ok((stream, _)) = listener.accept() else {

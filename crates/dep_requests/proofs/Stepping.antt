@@ -52,7 +52,7 @@ use Rattle.dep_row_maps.specs.Clauses.{ChangesWithin, SeesState}
 use Rattle.dep_views.specs.Seen.{file_at_path}
 use Rattle.dep_views.specs.declared.view.LoadedView.{LoadedView}
 use Rattle.dep_requests.specs.declared.performing.Ruled.{Ruled}
-use Rattle.dep_requests.specs.Performing.{ChangesNothing, IsDigestedFor, IsLookedUp, AsksToBeShown, Rules, Sees, SeesFor, row_for}
+use Rattle.dep_requests.specs.Performing.{ChangesNothing, IsDigestedFor, IsLookedUp, AsksToBeShown, Rules, SeesTruly, SeesFor, row_for}
 
 -- a step leaves a sound state
 pub step_sound : (config : Config) (s : State) (op : Operation) → AreFit op.fields → IsSound s → IsSound (operation_step config s op).state
@@ -225,7 +225,7 @@ payload_seen s next (resource.BagList n) m row h e = absurd (cc)
 abbrev ShowsRow : Config → State → Operation → FileRow → Type 0
 ShowsRow config s op row = (effect config s op ≡ s) × (shown.File row ≡ shown_at (effect config s op) (read_set_of (effect config s op).next op.target.resource op.target.method))
 
-module _ (config : Config) (s : State) (op : Operation) (ruled : Ruled) (row : FileRow) (read : IsTrue (is_safe op.target.method)) (rules : Sees config s op ruled) where
+module _ (config : Config) (s : State) (op : Operation) (ruled : Ruled) (row : FileRow) (read : IsTrue (is_safe op.target.method)) (rules : SeesTruly config s op ruled) where
   shown_still : shown.File row ≡ shown_at s (read_set_of s.next op.target.resource op.target.method) → ShowsRow config s op row
   shown_still reported =
       let kept : effect config s op ≡ s = reads_keep config s op read in
@@ -243,7 +243,7 @@ module _ (config : Config) (s : State) (op : Operation) (ruled : Ruled) (row : F
 
 -- ---- so it is of the row that is known of the one or the other
 
-module _ (config : Config) (s : State) (op : Operation) (ruled : Ruled) (rules : Sees config s op ruled) (reported : Shown) where
+module _ (config : Config) (s : State) (op : Operation) (ruled : Ruled) (rules : SeesTruly config s op ruled) (reported : Shown) where
   abbrev ShowsReported : Type 0
   ShowsReported = (effect config s op ≡ s) × (reported ≡ shown_at (effect config s op) (read_set_of (effect config s op).next op.target.resource op.target.method))
 

@@ -41,14 +41,14 @@ use Rattle.dep_requests.specs.declared.performing.Done.{Done}
 use Rattle.dep_requests.specs.declared.performing.Ruled.{Ruled}
 
 -- the view shows the state truly, and so does the row of a payload file
-pub record Sees (config : Config) (s : State) (op : Operation) (ruled : Ruled) : Type 0 where
+pub record SeesTruly (config : Config) (s : State) (op : Operation) (ruled : Ruled) : Type 0 where
   pub view : ruled.view ≡ true_view config s op
   pub payload : ruled.payload ≡ touched_payload s (touched_by config op)
 
 -- so it is of what is let through; what is refused may have been ruled before uploads were looked up or hashed
 abbrev pub SeesFor : Config → State → Operation → Ruled → Ruling → Type 0
 SeesFor config s op ruled (Refuse r) = Unit {0}
-SeesFor config s op ruled (Do d) = Sees config s op ruled
+SeesFor config s op ruled (Do d) = SeesTruly config s op ruled
 
 -- the clock is the state's, the ruling is right there, and what it lets through was seen truly
 pub record Rules (config : Config) (s : State) (op : Operation) (ruled : Ruled) : Type 0 where
@@ -111,7 +111,7 @@ ShowsEffect config s op new shown =
 abbrev pub IsCarriedOut : (old new : db.State) → Operation → Ruled → Decision
     → Result Shown StoreFault → Type 0
 IsCarriedOut old new op ruled decision result = FromMaps old new (λ s. (config : Config)
-    → IsSound s → AreFit op.fields → Sees config s op ruled → IsRuling config s op (Do decision)
+    → IsSound s → AreFit op.fields → SeesTruly config s op ruled → IsRuling config s op (Do decision)
     → IfOk result (ShowsEffect config s op new))
 
 -- this is ready as the reply of the step, and the tables are those of the state that it leaves
@@ -137,7 +137,7 @@ KeepsRunningHashes old new before now =
     FromMaps old new (λ s. IsSound s → AreRunning s before → AreRunning s now)
 
 -- what was ruled rightly is followed
-abbrev pub Follows : (old new : db.State) → Config → Operation → Ruled → Result Performed StoreFault
+abbrev pub FollowsRuling : (old new : db.State) → Config → Operation → Ruled → Result Performed StoreFault
     → Type 0
-Follows old new config op ruled result = FromMaps old new (λ s. IsSound s → AreFit op.fields
+FollowsRuling old new config op ruled result = FromMaps old new (λ s. IsSound s → AreFit op.fields
     → Rules config s op ruled → IfOk result (IsStepped config s op new))

@@ -15,7 +15,7 @@ use Rattle.dep_router.proofs.SlashLemmas.{split-all, segment-cut, drop-past, tak
 use Rattle.dep_router.proofs.PathLemmas.{found_route, below_part, object_segments}
 use Rattle.dep_router.specs.declared.pages.Page.{Page}
 use Rattle.dep_router.specs.declared.pages.Page.TheVariants.{Service, Object, Metadata, FileSet, File, Staging, Upload, BagList, BagFile}
-use Rattle.dep_router.specs.Pages.{routes, named_parts, pattern_of, text_of, name_spans, at_object, Found, NamedParts, resource_by}
+use Rattle.dep_router.specs.Pages.{routes, named_parts, pattern_of, text_of, name_spans, at_object, HasPageForm, NamedParts, resource_by}
 
 -- literal bytes of a pattern, each of which stands in the path
 wild-run : (w rest : List ℕ) (len token at : ℕ) → IsText w → at + length w ≤ len → wild_from (w ++ rest) len token at ≡ wild_from rest len (token + length w) (at + length w)
@@ -228,7 +228,7 @@ pub within_is : (n part text : List ℕ) → has_slash n ≡ false → segments 
 within_is n part text h e =
     ap resource_of (object_segments n (part ++ 47 ∷ text) h) ∙ ap (λ s. resource_of ([] ∷ codes "objects" ∷ n ∷ s)) e ∙ below_part n part text
 
-pub reads : (page : Page) (path : List ℕ) → Found page path → IsUtf8 path → Reads page path (walk_of page path)
+pub reads : (page : Page) (path : List ℕ) → HasPageForm page path → IsUtf8 path → Reads page path (walk_of page path)
 reads Service path f u = from_parts Service path (codes "/service") [] f refl (tt, refl)
 reads Staging path f u = from_parts Staging path (codes "/staging") [] f refl (tt, refl)
 reads Upload path f u =

@@ -11,7 +11,7 @@ use matchit::Params;
 
 /// What a path names, before the path of a file in a bag is decoded.
 #[derive(Drop)]
-pub(crate) enum Place<'a> {
+pub(crate) enum PathPlace<'a> {
     /// A resource.
     Resource(Resource),
     /// A file in the bag of this object, with its path.
@@ -19,38 +19,38 @@ pub(crate) enum Place<'a> {
 }
 
 /// What a page names, by what its parameters took; `None` where the text of a number is no such number.
-pub(crate) fn place_of_page<'p>(page: Page, params: &Params<'_, 'p>) -> Option<Place<'p>>
+pub(crate) fn place_of_page<'p>(page: Page, params: &Params<'_, 'p>) -> Option<PathPlace<'p>>
     requires { AllText (named_parts params.now) }
     ensures named { resource_at result ≡ resource_by page (named_parts params.now) }
     ensures path { IsPathOf page (named_parts params.now) result }
 {
     match page {
-        Page::Service => Some(Place::Resource(Resource::Service)),
-        Page::Staging => Some(Place::Resource(Resource::Staging)),
+        Page::Service => Some(PathPlace::Resource(Resource::Service)),
+        Page::Staging => Some(PathPlace::Resource(Resource::Staging)),
         Page::Upload => {
             let upload = number_named(params, "upload")?;
-            Some(Place::Resource(Resource::Upload(upload)))
+            Some(PathPlace::Resource(Resource::Upload(upload)))
         }
         _ => place_of_object(number_named(params, "object")?, page, params),
     }
 }
 
 // What a page names of an object: the object itself, or what stands behind it.
-fn place_of_object<'p>(object: u64, page: Page, params: &Params<'_, 'p>) -> Option<Place<'p>>
+fn place_of_object<'p>(object: u64, page: Page, params: &Params<'_, 'p>) -> Option<PathPlace<'p>>
     requires { AllText (named_parts params.now) }
     ensures named { resource_at result ≡ object_resource_by page object (named_parts params.now) }
     ensures path { IsPathOf page (named_parts params.now) result }
 {
     match page {
-        Page::Object => Some(Place::Resource(Resource::Object(object))),
-        Page::Metadata => Some(Place::Resource(Resource::Metadata(object))),
-        Page::FileSet => Some(Place::Resource(Resource::FileSet(object))),
-        Page::BagList => Some(Place::Resource(Resource::BagList(object))),
+        Page::Object => Some(PathPlace::Resource(Resource::Object(object))),
+        Page::Metadata => Some(PathPlace::Resource(Resource::Metadata(object))),
+        Page::FileSet => Some(PathPlace::Resource(Resource::FileSet(object))),
+        Page::BagList => Some(PathPlace::Resource(Resource::BagList(object))),
         Page::File => {
             let file = number_named(params, "file")?;
-            Some(Place::Resource(Resource::File(object, file)))
+            Some(PathPlace::Resource(Resource::File(object, file)))
         }
-        Page::BagFile => Some(Place::InBag(object, params.get("path")?)),
+        Page::BagFile => Some(PathPlace::InBag(object, params.get("path")?)),
         Page::Service | Page::Staging | Page::Upload => None,
     }
 }

@@ -10,7 +10,7 @@ ghost use Rattle.dep_router.specs.Targets.{target, segments, resource_of};
 use crate::bag_paths::decoded_from;
 use crate::methods::{Allow, method_at};
 use crate::pages::{PAGES, Page};
-use crate::reading::{Place, place_of_page};
+use crate::reading::{PathPlace, place_of_page};
 use dep_types::{Octets, Resource, Target};
 use matchit::{InsertError, Router};
 use std::alloc::{AllocError, Global};
@@ -62,8 +62,8 @@ impl Routes {
         ensures { result ≡ resource_of (segments (string_bytes path)) }
     {
         match self.place(&path)? {
-            Place::Resource(resource) => Some(resource),
-            Place::InBag(object, end) => {
+            PathPlace::Resource(resource) => Some(resource),
+            PathPlace::InBag(object, end) => {
                 let start = path.len() - end.len();
                 Some(bag_file(object, path.into_bytes(), start))
             }
@@ -84,7 +84,7 @@ impl Routes {
         }
     }
 
-    fn place<'p>(&self, path: &'p str) -> Option<Place<'p>>
+    fn place<'p>(&self, path: &'p str) -> Option<PathPlace<'p>>
         ensures named { resource_at result ≡ resource_of (segments path.now) }
         ensures ends { EndsWithPlace path.now result }
     {

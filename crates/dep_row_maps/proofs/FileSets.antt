@@ -16,7 +16,7 @@ use Rattle.dep_tables.specs.declared.owner.BlockOwner.{BlockOwner}
 use Rattle.dep_tables.specs.declared.owner.BlockOwner.TheVariants as owner
 use Rattle.dep_row_maps.specs.Owned.{OwnedAre}
 use Rattle.dep_row_maps.specs.Stored.{block_rows, shown_sha512, sha512_rows, without_rows}
-use Rattle.dep_row_maps.specs.TablesAre.{FilesAre, AreFilesOwn, HasContent, HasSha512, metadata_at, files_at}
+use Rattle.dep_row_maps.specs.TablesAre.{FilesAre, AreFilesOwn, HasContentInParts, HasSha512, metadata_at, files_at}
 use Rattle.dep_row_maps.specs.Laws.{FilesDropped, FileMissed, FileReplaced}
 use Rattle.dep_row_maps.proofs.Blocks.{one_owner, same_owner, block_rows-empty, blocks-delete}
 use Rattle.dep_row_maps.proofs.Files.{files-drop, files-put, files-without, one_object, remove-absent, same_number}
@@ -93,7 +93,7 @@ files_dropped t s h up n o there =
       objects = h.common.objects ∙ sym same.0;
       metadata = texts_moved t.metadata (metadata_at s.objects) _ same.1 h.common.metadata;
       files = files-drop t.files (files_at s.objects) (files_at new) h.common.files up n (files_now s.objects n o finmap.empty) (files_else s.objects n o finmap.empty);
-      own = own_gone HasContent finmap.empty s.objects n o there h.common.parts parts.0 one parts.2 h.common.files_parts;
+      own = own_gone HasContentInParts finmap.empty s.objects n o there h.common.parts parts.0 one parts.2 h.common.files_parts;
     }) (uploads_left t s h parts.0 parts.2.uploads)) (record {
       values = values.0;
       are = values.1;
@@ -149,5 +149,5 @@ file_replaced t s h up values_up n o there f was file at blocks parts are conten
       files = files-put (without_rowid (pos f) t.files) (λ m. finmap.remove (files_at s.objects m) f) (files_at new) mid (IsShaped-filter shape.Table _ t.files up) n f file (no_row (pos f) t.files)
           (files_now s.objects n o fs ∙ sym (inserted_over o.files f file) ∙ ap (λ ys. finmap.insert (finmap.remove ys f) f file) (sym (files_there s.objects n o there)))
           (λ m apart. files_else s.objects n o fs m apart ∙ sym (remove-absent (files_at s.objects m) f (free m apart)));
-      own = own-put HasContent finmap.empty s.objects n o there h.common.parts parts f file free content (λ g apart. others (owner.File g) (other_file g f apart)) h.common.files_parts;
+      own = own-put HasContentInParts finmap.empty s.objects n o there h.common.parts parts f file free content (λ g apart. others (owner.File g) (other_file g f apart)) h.common.files_parts;
     }) (uploads_left t s h parts (λ u. others (owner.Upload u) (no_upload u f)))) (values_replaced t.sha512s s.objects s.uploads (values_of t s h) n o there f values_up file free)

@@ -5,7 +5,7 @@ use Rattle.std.proofs.lemmas.Cmp.{nat_cmp_total}
 use Rattle.std.specs.List.{flat_map}
 use Rattle.std.specs.FinMap as finmap
 use Rattle.dep_row_maps.specs.Stored.{blocks_of, put_blocks}
-use Rattle.dep_row_maps.specs.TablesAre.{HasContent, IsCutBy, files_at, joined_parts}
+use Rattle.dep_row_maps.specs.TablesAre.{HasContentInParts, IsCutBy, files_at, joined_parts}
 use Rattle.dep_types.specs.Maps.{Numbered}
 use Rattle.dep_types.specs.State.{File}
 use Rattle.dep_row_maps.proofs.Lens.{get_here, get_there}
@@ -32,8 +32,8 @@ one_cut content (suc k) =
     ap (λ o. unwrap_or o []) (get_there finmap.empty 1 content (suc (suc k)) (λ same. cc same) ∙ finmap.get-empty nat_cmp (suc (suc k)))
     ∙ sym (ap (take (suc (length content))) (drop_all (suc k * suc (length content)) content (far k (length content))) ∙ take_all (suc (length content)) [] (omega arith))
 
-one_content : (file : File) (parts : Numbered (List ℕ)) → parts ≡ finmap.insert finmap.empty 1 file.content → HasContent file parts
-one_content file parts is = subst (HasContent file) (sym is) (record {
+one_content : (file : File) (parts : Numbered (List ℕ)) → parts ≡ finmap.insert finmap.empty 1 file.content → HasContentInParts file parts
+one_content file parts is = subst (HasContentInParts file) (sym is) (record {
   joins = one_joined 1 file.content;
   size = suc (length file.content);
   some = omega arith;

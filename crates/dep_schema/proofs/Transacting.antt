@@ -23,7 +23,7 @@ use Rattle.sqlite.proofs.Callers.{survives_begin}
 use Rattle.sqlite.proofs.StateLemmas.{survives_then}
 use Rattle.dep_schema.proofs.Asking.{LentStays}
 use Rattle.dep_schema.proofs.Transactions.{begins_open, represents_left}
-use Rattle.dep_schema.specs.States.{TablesRepresent, Represents, DatabaseLeaves}
+use Rattle.dep_schema.specs.States.{TablesRepresent, StoreRepresents, DatabaseLeaves}
 use Rattle.dep_schema.specs.Transactions.{TransactsTo, Transacts, FailsToEnd, OnlyReports, IsBackAt, IsGivenBack}
 
 -- what a crash leaves while nothing is left to be settled
@@ -46,11 +46,11 @@ left_still old new t settled represents survives clean trees h = elim (survives.
   | inr none ↦ absurd none
 ]
 
-pub leaves_as_was : (d : db.State) (s : State) → IsSettled d → Represents d s → DatabaseLeaves d (λ left. left ≡ s)
+pub leaves_as_was : (d : db.State) (s : State) → IsSettled d → StoreRepresents d s → DatabaseLeaves d (λ left. left ≡ s)
 leaves_as_was d s settled represents trees h =
     (s, inl (represents.tables, left_as_was d represents.tables settled represents.represents trees h, represents.means), refl)
 
-pub leaves_still : (old new : db.State) (s : State) → IsSettled old → Represents old s → Survives old new (λ _. ⊥) → HasCleanDisk new → DatabaseLeaves new (λ left. left ≡ s)
+pub leaves_still : (old new : db.State) (s : State) → IsSettled old → StoreRepresents old s → Survives old new (λ _. ⊥) → HasCleanDisk new → DatabaseLeaves new (λ left. left ≡ s)
 leaves_still old new s settled represents survives clean trees h =
     (s, inl (represents.tables, left_still old new represents.tables settled represents.represents survives clean trees h, represents.means), refl)
 
@@ -257,10 +257,10 @@ on_connection g stays is = sym is ∙ sym stays.same_reference
 -- ---- what it says of states
 
 pub err_state : {A E : Type 0} (old new : db.State) (result : Result A E) (Makes : Tables → A → Tables → Type 0)
-    → Transacts old new result Makes → IsTrue new.is_open → (s : State) → Represents old s → OnErr result (Represents new s)
+    → Transacts old new result Makes → IsTrue new.is_open → (s : State) → StoreRepresents old s → OnErr result (StoreRepresents new s)
 err_state {A} {E} old new result Makes it is_open s represents = each result (it.err is_open represents.tables represents.represents)
   where
-    each : (r : Result A E) → OnErr r (StaysFile new represents.tables) → OnErr r (Represents new s)
+    each : (r : Result A E) → OnErr r (StaysFile new represents.tables) → OnErr r (StoreRepresents new s)
     each (Ok answer) h = tt
     each (Err e) stand = record { tables = represents.tables; represents = stand; means = represents.means }
 
@@ -270,13 +270,13 @@ module _ {A E : Type 0} (old new : db.State) (result : Result A E) (Makes : Tabl
   abbrev pub IsOver : State → Type 0
   IsOver s = (t : Tables) (answer : A) (after : Tables) → Makes t answer after → TablesRepresent t s → reported s answer × TablesRepresent after (next s)
 
-  pub ok_over_states : Transacts old new result Makes → HasCleanDisk new → (s : State) → IsOver s → Represents old s
-      → IfOk result (λ answer. reported s answer × Represents new (next s))
+  pub ok_over_states : Transacts old new result Makes → HasCleanDisk new → (s : State) → IsOver s → StoreRepresents old s
+      → IfOk result (λ answer. reported s answer × StoreRepresents new (next s))
   ok_over_states it clean s over represents = if_then result (it.ok clean represents.tables represents.represents) (λ answer does.
       let made = over represents.tables answer does.0 does.2 represents.means in
       (made.0, record { tables = does.0; represents = does.1; means = made.1 }))
 
-  pub stop_over_states : Transacts old new result Makes → HasCleanDisk new → (s : State) → IsOver s → Represents old s
+  pub stop_over_states : Transacts old new result Makes → HasCleanDisk new → (s : State) → IsOver s → StoreRepresents old s
       → DatabaseLeaves new (λ left. (left ≡ s) ⊎ (left ≡ next s))
   stop_over_states it clean s over represents trees h = elim (it.stop clean represents.tables represents.represents trees h) [
     | inl earlier ↦ (s, inl (represents.tables, earlier, represents.means), inl refl)
@@ -342,7 +342,7 @@ given_back old new answer Makes settled it made = record {
 }
 
 -- what it represents now, it represented then
-pub stood_before : (old new : db.State) → IsBackAt old new → old.in_transaction ≡ false → (s : State) → Represents new s → Represents old s
+pub stood_before : (old new : db.State) → IsBackAt old new → old.in_transaction ≡ false → (s : State) → StoreRepresents new s → StoreRepresents old s
 stood_before old new back settled s represents =
     let it = back represents.represents.is_open in
     record {

@@ -15,7 +15,7 @@ use Rattle.dep_tables.specs.Clauses.{CommitsNothing}
 use Rattle.dep_types.specs.declared.store_fault.StoreFault.{StoreFault}
 use Rattle.dep_row_maps.specs.Sha512s.{upgraded}
 use Rattle.dep_migrations.specs.Beside.{AreNewNamesFree}
-use Rattle.dep_migrations.specs.FirstTables.{Sees}
+use Rattle.dep_migrations.specs.FirstTables.{SeesTables}
 use Rattle.dep_schema.specs.OpenTables.{IsBack}
 use Rattle.dep_schema.specs.OpenFaults.{begun}
 use Rattle.dep_schema.specs.Transactions.{FailsToEnd, TransactsTo}
@@ -61,7 +61,7 @@ module _ {S : Type 0} (g : Ghosts S) (values : List FileSha512) (old : Held S) (
 
 -- what an Ok of the statements inside a transaction tells
 pub record IsRewritten (start inside : State) (values : List FileSha512) : Type 0 where
-  pub ok : HasCleanDisk inside → IsTrue start.in_transaction → IsOlder start → Sees inside (upgraded values (tables_of start))
+  pub ok : HasCleanDisk inside → IsTrue start.in_transaction → IsOlder start → SeesTables inside (upgraded values (tables_of start))
   pub free : HasCleanDisk inside → IsTrue start.in_transaction → AreNewNamesFree start.now.schema
 
 -- in one that was lent, it tells that of the connection

@@ -32,7 +32,7 @@ use Rattle.dep_migrations.specs.Beside.{LacksFormat}
 use Rattle.dep_schema.proofs.Missing.{find_missing, find_plain}
 use Rattle.dep_tables.specs.Tables.{tables_of, IsKnownSchema, IsKnown}
 use Rattle.dep_tables.specs.Versions.{our_version, older_version, HasVersion}
-use Rattle.dep_migrations.specs.FirstTables.{no_schema, Sees, IsBeside, GainsOurs, new_store_tables}
+use Rattle.dep_migrations.specs.FirstTables.{no_schema, SeesTables, IsBeside, GainsOurs, new_store_tables}
 use Rattle.dep_schema.specs.OpenTables.{HasKnownVersion, Holds, IsOpenBeside, CommitsBySchema}
 use Rattle.dep_schema.specs.OpenFaults.{open_fault_for, AreVersion, AreKnownVersion, ShowsVersion, ReportsVersion}
 use Rattle.dep_types.specs.declared.store_fault.StoreFault.{StoreFault}
@@ -178,7 +178,7 @@ pub never_passed : {A : Type 0} (r : Result A OpenFault) (fault : StoreFault) �
 never_passed r fault is said = named_fault fault (open_fault_for fault) refl (reported_as r (open_fault_for fault) UnknownVersion is said)
 
 -- what is committed at the end
-commits_open : (old last : State) → (old.now.schema ≡ no_schema → Sees last new_store_tables) → (IsKnown old → last.now ≡ old.now) → (LacksFormat old.now.schema → GainsOurs old.now last.now) → (db : Trees) → db ≡ last.now.trees → CommitsBySchema old db
+commits_open : (old last : State) → (old.now.schema ≡ no_schema → SeesTables last new_store_tables) → (IsKnown old → last.now ≡ old.now) → (LacksFormat old.now.schema → GainsOurs old.now last.now) → (db : Trees) → db ≡ last.now.trees → CommitsBySchema old db
 commits_open old last made there gains db is = record {
   found = λ ours. is ∙ ap (λ (d : Database). d.trees) (there ours);
   new = λ empty. let sees = made empty in subst (λ trees. Holds trees new_store_tables) (sym is) (record { ours = sees.ours.trees; rows = sees.rows });
@@ -188,7 +188,7 @@ commits_open old last made there gains db is = record {
 
 -- a crash leaves what was there, or what is committed
 pub survives_open : (old last new : State) → Survives old last (λ _. ⊥) → Survives last new (λ db. db ≡ last.now.trees)
-    → (HasCleanDisk last → old.now.schema ≡ no_schema → Sees last new_store_tables) → (HasCleanDisk last → IsKnown old → last.now ≡ old.now) → (HasCleanDisk last → LacksFormat old.now.schema → GainsOurs old.now last.now) → Survives old new (CommitsBySchema old)
+    → (HasCleanDisk last → old.now.schema ≡ no_schema → SeesTables last new_store_tables) → (HasCleanDisk last → IsKnown old → last.now ≡ old.now) → (HasCleanDisk last → LacksFormat old.now.schema → GainsOurs old.now last.now) → Survives old new (CommitsBySchema old)
 survives_open old last new begun ended made there gains =
     survives_then old last new (λ _. ⊥) (λ db. db ≡ last.now.trees) (CommitsBySchema old) (λ _ db none. absurd none) (λ clean db is.
     let sure : HasCleanDisk last = omega (arith, clean, ended.clean) in

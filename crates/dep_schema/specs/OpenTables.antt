@@ -90,7 +90,7 @@ abbrev pub IsBack : State → State → Type 0
 IsBack old new = (new.now ≡ old.committed) × (new.committed ≡ old.committed)
 
 -- between transactions, with the store open and what the connection saw
-pub record IsStill (old new : State) : Type 0 where
+pub record SeesTheSame (old new : State) : Type 0 where
   pub was_open : IsTrue old.is_open
   pub is_open : IsTrue new.is_open
   pub now : new.now ≡ old.now

@@ -13,24 +13,24 @@ use Rattle.dep_requests.specs.Performing.{ChangesNothing, IsDone}
 use Rattle.dep_requests.specs.declared.performing.Done.{Done}
 use Rattle.dep_answers.specs.Steps.{operation_step}
 use Rattle.dep_answers.specs.Performing.{IsReady}
-use Rattle.dep_schema.specs.States.{Represents}
+use Rattle.dep_schema.specs.States.{StoreRepresents}
 use Rattle.dep_schema.specs.Transactions.{OverStates, OverStatesWhere, IsGivenBack}
 
 -- the reply of the step is ready
-abbrev pub IsAnswered : Config → Operation → State → Done → Type 0
-IsAnswered config op s done = IsReady (operation_step config s op) done.performed
+abbrev pub HasReplyReady : Config → Operation → State → Done → Type 0
+HasReplyReady config op s done = IsReady (operation_step config s op) done.performed
 
 -- what a request makes of the tables: those of the step's state, for each state that they represented and of which what was
 -- hashed ahead is true
 abbrev pub StepsOver : Config → Operation → RunningHashes → Tables → Done → Tables → Type 0
 StepsOver config op running before done after = AreFit op.fields
-    → OverStatesWhere (λ s. AreRunning s running) (IsAnswered config op)
+    → OverStatesWhere (λ s. AreRunning s running) (HasReplyReady config op)
     (λ s. (operation_step config s op).state) before done after
 
 -- so it is where nothing needs to have been hashed ahead
 abbrev pub StepsAlone : Config → Operation → Tables → Done → Tables → Type 0
 StepsAlone config op before done after = AreFit op.fields
-    → OverStates (IsAnswered config op) (λ s. (operation_step config s op).state) before done after
+    → OverStates (HasReplyReady config op) (λ s. (operation_step config s op).state) before done after
 
 -- and where nothing was
 abbrev pub IsDoneAlone : (old new : db.State) → Config → Operation → Done → Type 0
@@ -40,7 +40,7 @@ IsDoneAlone old new config op done = (none : RunningHashes) × ((s : State) → 
 module _ (old new : db.State) (result : Result Done StoreFault) where
   -- it returns that nothing was changed just where it is refused, or only asks to be shown
   abbrev pub ReportsChanges : Config → Operation → RunningHashes → Type 0
-  ReportsChanges config op running = db.HasCleanDisk new → (s : State) → Represents old s
+  ReportsChanges config op running = db.HasCleanDisk new → (s : State) → StoreRepresents old s
       → AreRunning s running
       → IfOk result (λ done. done.has_changes ≡ false ↔ ChangesNothing config s op)
 
@@ -52,11 +52,11 @@ module _ (old new : db.State) (result : Result Done StoreFault) where
 -- it stood, while it is open.
 abbrev pub KeepsRunning : (old new : db.State) → (running_before running : RunningHashes) → Type 0
 KeepsRunning old new running_before running = IsTrue new.is_open
-    → (s : State) → Represents old s → AreRunning s running_before → AreRunning s running
+    → (s : State) → StoreRepresents old s → AreRunning s running_before → AreRunning s running
 
 -- what is refused, and what only shows, commits nothing and leaves the database as it was
 abbrev pub IsKeptUnchanged : {A : Type 0} → (old new : db.State) → Result A StoreFault
     → Config → Operation → RunningHashes → Type 0
 IsKeptUnchanged old new result config op running = db.HasCleanDisk new → (s : State)
-    → Represents old s → AreRunning s running → ChangesNothing config s op
+    → StoreRepresents old s → AreRunning s running → ChangesNothing config s op
     → OnOk result (IsGivenBack old new)

@@ -14,7 +14,7 @@ pub record TablesRepresent (tables : Tables) (s : State) : Type 0 where
   pub sound : IsSound s
 
 -- the store is open, between transactions, and its tables represent the state
-pub record Represents (d : db.State) (s : State) : Type 0 where
+pub record StoreRepresents (d : db.State) (s : State) : Type 0 where
   pub tables : Tables
   pub represents : StaysFile d tables
   pub means : TablesRepresent tables s
@@ -43,5 +43,5 @@ DatabaseLeaves d allowed = (trees : Trees) → d.may_leave trees
 
 -- for each state that it represented, it represents one that is so related to it
 abbrev pub Carries : (old new : db.State) → (State → State → Type 0) → Type 0
-Carries old new related = (s : State) → Represents old s
-    → (left : State) × Represents new left × related s left
+Carries old new related = (s : State) → StoreRepresents old s
+    → (left : State) × StoreRepresents new left × related s left

@@ -8,7 +8,7 @@ ghost use Rattle.sqlite.specs.Held.{state};
 ghost use Rattle.dep_tables.specs.Tables.{IsKnown};
 ghost use Rattle.dep_tables.specs.Versions.{our_version, older_version, IsKnownVersion};
 ghost use Rattle.dep_migrations.specs.FirstTables.{no_schema, new_store_tables};
-ghost use Rattle.dep_schema.specs.OpenTables.{StaysFile, IsOpenable, CommitsBySchema, IsBack, IsStill, HasOtherVersion, StaysOn};
+ghost use Rattle.dep_schema.specs.OpenTables.{StaysFile, IsOpenable, CommitsBySchema, IsBack, SeesTheSame, HasOtherVersion, StaysOn};
 ghost use Rattle.dep_migrations.specs.Beside.{LacksFormat, AreFree};
 ghost use Rattle.dep_schema.specs.Making.{FindsNone, FindsKnown, FindsShown, AddsFirst, LeavesKnown, FindsOrMakes};
 ghost use Rattle.dep_migrations.specs.Making.{MakesFirst};
@@ -202,7 +202,7 @@ fn prepare<S: Alter>(connection: &mut Connection<S>) -> Result<u64, OpenFault>
         → IfOk result (λ version. version ≡ our_version) }
     ensures still { HasCleanDisk (state S.Store connection.new)
         → IfOk result (λ version. version ≡ older_version
-        → IsStill (state S.Store connection.old) (state S.Store connection.new)) }
+        → SeesTheSame (state S.Store connection.old) (state S.Store connection.new)) }
     ensures known { IfOk result IsKnownVersion }
     ensures version { HasCleanDisk (state S.Store connection.new)
         → result ≡ Err OpenFault.UnknownVersion
@@ -258,7 +258,7 @@ pub fn open<S: Alter>(
     // One of version 1 is left as it is, whatever tables it has.
     ensures still { IfOk result (λ schema. HasCleanDisk (state S.Store schema.connection)
         → schema.found ≡ older_version
-        → IsStill (state S.Store connection) (state S.Store schema.connection)) }
+        → SeesTheSame (state S.Store connection) (state S.Store schema.connection)) }
     ensures known { IfOk result (λ schema. IsKnownVersion schema.found) }
     ensures free { IfOk result (λ schema. HasCleanDisk (state S.Store schema.connection)
         → LacksFormat (state S.Store connection).now.schema

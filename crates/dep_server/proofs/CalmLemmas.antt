@@ -6,8 +6,8 @@ use Rattle.dep_message.specs.Places.{Place}
 use Rattle.dep_message.specs.Stream.{Item}
 use Rattle.dep_answers.specs.Steps.{sent_by}
 use Rattle.dep_exchange.specs.Machine.{step, replies, state_after, Serves}
-use Rattle.dep_exchange.specs.Records.{Event, Record, stopped, Line, World, Run, Happens, Arrives}
-use Rattle.dep_server.specs.Calm.{SteppedItem, steps_of, CalmServes, all_served, CalmArrives, live, shut_line, Calm, connect, close, arrive, none, CalmRun, AnyCalmRun, BeginAlike, nothing, more, stop, is_event_of, sent_to, bytes_if, EndAlike}
+use Rattle.dep_exchange.specs.Records.{ServerEvent, Record, stopped, Line, World, Run, Happens, Arrives}
+use Rattle.dep_server.specs.Calm.{SteppedItem, steps_of, CalmServes, all_served, CalmArrives, live, shut_line, Calm, connect, close, arrive, none, CalmRun, AnyCalmRun, BeginAlike, nothing, more, stop, is_event_of, sent_to, bytes_if, RunsEndAlike}
 use Rattle.dep_exchange.specs.declared.arrived.Arrived.{Arrived}
 
 -- the state that the steps leave
@@ -68,7 +68,7 @@ unfolding to_by state_by
 arrives_by number (live v c) = serves_by number c
 arrives_by number shut_line = (λ n. sym (if_nil (number == n)), refl)
 
-happens_by : {config : Config} {w w' : World} {event : Event} {sent : List ℕ} {h : Happens config w event sent w'} {steps : List SteppedItem}
+happens_by : {config : Config} {w w' : World} {event : ServerEvent} {sent : List ℕ} {h : Happens config w event sent w'} {steps : List SteppedItem}
     → Calm _ _ _ h steps → ((n : ℕ) → (bytes_if (is_event_of n event) sent) ≡ to_by n config w.state steps) × (w'.state ≡ state_by config w.state steps)
 unfolding to_by state_by
 happens_by (connect {n = m}) = (λ n. sym (if_nil (m == n)), refl)
@@ -93,7 +93,7 @@ run_by (stop {records} r c) =
     let a = run_by c in (λ n. to_more n records stopped ∙ (append-nil (sent_to n records) ∙ a.0 n), a.1)
 
 -- two that make the same steps
-pub alike : (a b : AnyCalmRun) → BeginAlike a b → a.steps ≡ b.steps → EndAlike a b
+pub alike : (a b : AnyCalmRun) → BeginAlike a b → a.steps ≡ b.steps → RunsEndAlike a b
 alike a b begin same =
     let x = run_by a.calm in
     let y = run_by b.calm in

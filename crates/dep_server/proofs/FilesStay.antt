@@ -22,7 +22,7 @@ use Rattle.dep_router.specs.declared.routed.Routed.TheVariants.{To, NotFound, No
 use Rattle.dep_exchange.specs.Machine.{operation_of, routed_step, step}
 use Rattle.dep_exchange.specs.Records.{Record, World, Run}
 use Rattle.dep_server.specs.Moves.{Move, Made, Begun, moved, state_by, moves_of}
-use Rattle.dep_server.specs.Requests.{AnyRequest, step_of, ticked, left_by, IsAccepted, IsAcceptedFor}
+use Rattle.dep_server.specs.Requests.{AnyRequest, step_of, ticked, left_by, IsLetThrough, IsAcceptedFor}
 use Rattle.dep_server.specs.Runs.{AnyRun, RequestIn, as_it_came}
 use Rattle.dep_server.specs.Deposited.{IsTaken, deposit_object, deposited_number, StaysUntilTaken, IsDeposit, EntryStaysFrom}
 use Rattle.dep_server.proofs.MovesLead.{over_both, run_leads, moved_sound, moves_sound}
@@ -37,7 +37,7 @@ module _ (config : Config) (n f : ℕ) (file : File) where
     pub moment : ℕ
     pub target : Target
     pub is : move ≡ Made (Request message) moment
-    pub accepted : IsAccepted config (tick config s moment) message target
+    pub accepted : IsLetThrough config (tick config s moment) message target
     pub takes : IsTrue (takes_file n f target)
 
   by_refusal : (s : State) (op : Operation) (o : Option Refusal) (b : Bool) → refusal config s op ≡ o → takes_file n f op.target ≡ b → IsSound s → StaysFile s

@@ -8,7 +8,7 @@ use Rattle.dep_message.specs.Places.{Place}
 use Rattle.dep_message.specs.Stream.{Item, Fault, Continue, Request}
 use Rattle.dep_exchange.specs.Machine.{starting_state, step, state_after, Serves, serves_all, step_fails, gives_up, Fails, given_up, cut_short}
 use Rattle.dep_exchange.specs.Stops.{LeftByFailure, LeftByServing}
-use Rattle.dep_exchange.specs.Records.{Event, Record, Line, World, Arrives, at_live, at_shut_line, LeftByArrival, Happens, connects, closes, arrives, unknown, Run, begins, goes_on, stops, breaks}
+use Rattle.dep_exchange.specs.Records.{ServerEvent, Record, Line, World, Arrives, at_live, at_shut_line, LeftByArrival, Happens, connects, closes, arrives, unknown, Run, begins, goes_on, stops, breaks}
 use Rattle.dep_server.specs.Moves.{Move, Made, Begun, moved, state_by, steps_made, moves_by_failure, moves_by_serving, moves_by_arrival, moves_by_event, moves_found_after_failure, moves_found_after_serving, moves_found_after_arrival, moves_of}
 use Rattle.dep_exchange.specs.declared.arrived.Arrived.{Arrived}
 use Rattle.dep_server.proofs.SoundLemmas.{step_sound}
@@ -44,7 +44,7 @@ module _ (config : Config) where
   arrival_leads (at_live serves) = serving_leads serves
   arrival_leads at_shut_line = refl
 
-  event_leads : {w w' : World} {event : Event} {sent : List ℕ} (happens : Happens config w event sent w') → w'.state ≡ state_by config w.state (moves_by_event happens)
+  event_leads : {w w' : World} {event : ServerEvent} {sent : List ℕ} (happens : Happens config w event sent w') → w'.state ≡ state_by config w.state (moves_by_event happens)
   event_leads connects = refl
   event_leads closes = refl
   event_leads (arrives arrival) = arrival_leads arrival

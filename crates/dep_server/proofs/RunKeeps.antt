@@ -6,7 +6,7 @@ use Rattle.dep_message.specs.Places.{Place}
 use Rattle.dep_message.specs.Stream.{Item, Fault, Continue, Request}
 use Rattle.dep_exchange.specs.Machine.{starting_state, step, state_after, Serves, serves_all, step_fails, gives_up, Fails, given_up, cut_short}
 use Rattle.dep_exchange.specs.Stops.{LeftByFailure, LeftByServing}
-use Rattle.dep_exchange.specs.Records.{Event, Record, Line, World, Arrives, at_live, at_shut_line, LeftByArrival, ReadsBeyond, Happens, connects, closes, arrives, unknown, Run, begins, goes_on, stops, breaks}
+use Rattle.dep_exchange.specs.Records.{ServerEvent, Record, Line, World, Arrives, at_live, at_shut_line, LeftByArrival, ReadsBeyond, Happens, connects, closes, arrives, unknown, Run, begins, goes_on, stops, breaks}
 use Rattle.dep_server.specs.Acknowledged.{IsAfterSome, ServesThrough, ArrivesThrough, HappensThrough, RunsThrough}
 use Rattle.dep_exchange.specs.declared.arrived.Arrived.{Arrived}
 
@@ -42,7 +42,7 @@ module _ (config : Config) (P : State → Type 0)
   after_arrival {piece} (at_live {stream} v) p = after_serving (ReadsBeyond config.max_upload stream piece) v p
   after_arrival at_shut_line p = p
 
-  after_event : {w w' : World} {event : Event} {sent : List ℕ} → Happens config w event sent w' → P w.state → P w'.state
+  after_event : {w w' : World} {event : ServerEvent} {sent : List ℕ} → Happens config w event sent w' → P w.state → P w'.state
   after_event connects p = p
   after_event closes p = p
   after_event (arrives a) p = after_arrival a p
@@ -89,7 +89,7 @@ module _ (config : Config) (P : State → Type 0)
   through_arrival {piece} (at_live {stream} v) through t p = through_serving (ReadsBeyond config.max_upload stream piece) v through t p
   through_arrival at_shut_line through t p = absurd t
 
-  through_event : {w w' : World} {event : Event} {sent : List ℕ} (h : Happens config w event sent w') (through : State) → HappensThrough h through → P w.state → P through
+  through_event : {w w' : World} {event : ServerEvent} {sent : List ℕ} (h : Happens config w event sent w') (through : State) → HappensThrough h through → P w.state → P through
   through_event connects through t p = absurd t
   through_event closes through t p = absurd t
   through_event (arrives a) through t p = through_arrival a through t p
@@ -126,7 +126,7 @@ module _ (config : Config) (P : State → Type 0)
   from_arrival {piece} (at_live {stream} v) through t p = from_serving (ReadsBeyond config.max_upload stream piece) v through t p
   from_arrival at_shut_line through t p = absurd t
 
-  from_event : {w w' : World} {event : Event} {sent : List ℕ} (h : Happens config w event sent w') (through : State) → HappensThrough h through → P through → P w'.state
+  from_event : {w w' : World} {event : ServerEvent} {sent : List ℕ} (h : Happens config w event sent w') (through : State) → HappensThrough h through → P through → P w'.state
   from_event connects through t p = absurd t
   from_event closes through t p = absurd t
   from_event (arrives a) through t p = from_arrival a through t p

@@ -13,9 +13,9 @@ use Rattle.dep_message.specs.Stream.{Item, Spells, ReadsItems, Waits}
 use Rattle.dep_message.proofs.OneReading.{one_spelling}
 use Rattle.dep_message.proofs.Reading.{reads_more}
 use Rattle.dep_exchange.specs.Machine.{Serves}
-use Rattle.dep_exchange.specs.Records.{Event, Record, stopped, Line, Absent, Live, ShutLine, World, line_after, ReadsBeyond, Run, Happens, Arrives}
-use Rattle.dep_server.specs.Calm.{SteppedItem, steps_of, CalmServes, all_served, CalmArrives, live, shut_line, Calm, connect, close, arrive, none, CalmRun, AnyCalmRun, BeginAlike, nothing, more as one_more, stop as one_stop}
-use Rattle.dep_server.specs.Streams.{Streams, all_streams, with_event, streams_over, streams_of, items_of, AreSpelled, no_stream, first_stream, SchedulePoint, schedule_points_of, HaveSameStreams, HaveSameItems}
+use Rattle.dep_exchange.specs.Records.{ServerEvent, Record, stopped, Line, Absent, Live, ShutLine, World, line_after, ReadsBeyond, Run, Happens, Arrives}
+use Rattle.dep_server.specs.Calm.{SteppedItem, steps_of, CalmServes, all_served, CalmArrives, live, shut_line, Calm, connect, close, arrive, none, CalmRun, AnyCalmRun, BeginAlike, nothing, more as one_more, stop}
+use Rattle.dep_server.specs.Streams.{StreamsOfNumber, all_streams, with_event, streams_over, streams_of, items_of, AreSpelled, no_stream, first_stream, SchedulePoint, schedule_points_of, HaveSameStreams, HaveSameItems}
 use Rattle.dep_exchange.specs.declared.arrived.Arrived.{Arrived}
 
 -- ---- one list of items for one list of streams
@@ -36,7 +36,7 @@ spelled_more limit streams items stream now left (first_stream {stream = x} {str
 -- ---- what a run has made of the streams of a number
 
 -- the open stream spells the last of the items, and leaves this place
-record Spelled (limit : ℕ) (stream : List ℕ) (left : Place) (s : Streams) (items : List Item) : Type 0 where
+record Spelled (limit : ℕ) (stream : List ℕ) (left : Place) (s : StreamsOfNumber) (items : List Item) : Type 0 where
   pub earlier : List Item
   pub now : List Item
   pub is_open : s.current ≡ Some stream
@@ -44,7 +44,7 @@ record Spelled (limit : ℕ) (stream : List ℕ) (left : Place) (s : Streams) (i
   pub closed : AreSpelled limit s.closed earlier
   pub spells : Spells limit stream now left
 
-Accounts : ℕ → Line → Streams → List Item → Type 0
+Accounts : ℕ → Line → StreamsOfNumber → List Item → Type 0
 Accounts limit Absent s items = (s.current ≡ None) × AreSpelled limit s.closed items
 Accounts limit (Live stream) s items = (left : Place) × Spelled limit stream left s items
 Accounts limit ShutLine s items = (stream : List ℕ) × Spelled limit stream Shut s items
@@ -52,14 +52,14 @@ Accounts limit ShutLine s items = (stream : List ℕ) × Spelled limit stream Sh
 nothing_open : (o : Option (List ℕ)) → o ≡ None → option_map_or (λ (stream : List ℕ). stream ∷ []) o [] ≡ []
 nothing_open o e = ap (λ (x : Option (List ℕ)). option_map_or (λ (stream : List ℕ). stream ∷ []) x []) e
 
-spelled_all : (limit : ℕ) (stream : List ℕ) (left : Place) (s : Streams) (items : List Item) → Spelled limit stream left s items → AreSpelled limit (all_streams s) items
+spelled_all : (limit : ℕ) (stream : List ℕ) (left : Place) (s : StreamsOfNumber) (items : List Item) → Spelled limit stream left s items → AreSpelled limit (all_streams s) items
 spelled_all limit stream left s items h =
     subst (λ l. AreSpelled limit (all_streams s) l) (sym h.joined)
     (subst (λ (o : Option (List ℕ)). AreSpelled limit (s.closed ++ option_map_or (λ (x : List ℕ). x ∷ []) o []) (h.earlier ++ h.now)) (sym h.is_open)
     (spelled_more limit s.closed h.earlier stream h.now left h.closed h.spells))
 
 -- all streams are spelled, whatever the line
-accounts_all : (limit : ℕ) (line : Line) (s : Streams) (items : List Item) → Accounts limit line s items → AreSpelled limit (all_streams s) items
+accounts_all : (limit : ℕ) (line : Line) (s : StreamsOfNumber) (items : List Item) → Accounts limit line s items → AreSpelled limit (all_streams s) items
 unfolding Accounts
 accounts_all limit Absent s items a =
     subst (λ l. AreSpelled limit l items) (sym (ap (λ l. s.closed ++ l) (nothing_open s.current a.0) ∙ append-nil s.closed)) a.1
@@ -67,7 +67,7 @@ accounts_all limit (Live stream) s items a = spelled_all limit stream a.0 s item
 accounts_all limit ShutLine s items a = spelled_all limit a.0 Shut s items a.1
 
 -- a fresh connection
-opened_accounts : (limit : ℕ) (s : Streams) (items : List Item) → AreSpelled limit (all_streams s) items
+opened_accounts : (limit : ℕ) (s : StreamsOfNumber) (items : List Item) → AreSpelled limit (all_streams s) items
     → Accounts limit (Live []) (record { closed = all_streams s; current = Some [] }) items
 unfolding Accounts head_end
 opened_accounts limit s items a = (
@@ -83,17 +83,17 @@ opened_accounts limit s items a = (
 )
 
 -- one that is closed
-closed_accounts : (limit : ℕ) (s : Streams) (items : List Item) → AreSpelled limit (all_streams s) items
+closed_accounts : (limit : ℕ) (s : StreamsOfNumber) (items : List Item) → AreSpelled limit (all_streams s) items
     → Accounts limit Absent (record { closed = all_streams s; current = None }) items
 unfolding Accounts
 closed_accounts limit s items a = (refl, a)
 
 -- a piece goes on with the streams
-abbrev pub with_piece : List ℕ → Streams → Streams
+abbrev pub with_piece : List ℕ → StreamsOfNumber → StreamsOfNumber
 with_piece piece s = record s { current = option_map (λ (stream : List ℕ). stream ++ piece) s.current }
 
 -- the items that the piece completes
-served_accounts : (config : Config) (stream piece : List ℕ) (left at : Place) (s : Streams) (earlier items : List Item)
+served_accounts : (config : Config) (stream piece : List ℕ) (left at : Place) (s : StreamsOfNumber) (earlier items : List Item)
     → Spelled config.max_upload stream left s earlier → ReadsBeyond config.max_upload stream piece items at → Waits config.max_upload at
     → Spelled config.max_upload (stream ++ piece) at (with_piece piece s) (earlier ++ items)
 served_accounts config stream piece left at s earlier items h r w =
@@ -107,13 +107,13 @@ served_accounts config stream piece left at s earlier items h r w =
       spells = record { reads = subst (λ l. ReadsItems config.max_upload (Open false (stream ++ piece)) (l ++ items) at) same.0 r.3; waits = w };
     }
 
-line_accounts : (limit : ℕ) (stream : List ℕ) (at : Place) (s : Streams) (items : List Item) → Spelled limit stream at s items → Accounts limit (line_after stream at) s items
+line_accounts : (limit : ℕ) (stream : List ℕ) (at : Place) (s : StreamsOfNumber) (items : List Item) → Spelled limit stream at s items → Accounts limit (line_after stream at) s items
 unfolding Accounts
 line_accounts limit stream (Open continued rest) s items h = (Open continued rest, h)
 line_accounts limit stream Shut s items h = (stream, h)
 
 -- nothing is read behind an end
-ended_accounts : (limit : ℕ) (stream piece : List ℕ) (s : Streams) (items : List Item) → Spelled limit stream Shut s items
+ended_accounts : (limit : ℕ) (stream piece : List ℕ) (s : StreamsOfNumber) (items : List Item) → Spelled limit stream Shut s items
     → Spelled limit (stream ++ piece) Shut (with_piece piece s) items
 ended_accounts limit stream piece s items h = record {
   earlier = h.earlier;
@@ -155,7 +155,7 @@ arrives_none n number shut_line e = refl
 
 serves_accounts : {config : Config} (stream piece : List ℕ) {s left : State} {moment : ℕ} {sent : List ℕ} {at : Place} {answer : Arrived}
     {v : Serves config (ReadsBeyond config.max_upload stream piece) s moment sent left at answer} {steps : List SteppedItem}
-    (number : ℕ) (was : Place) (streams : Streams) (items : List Item)
+    (number : ℕ) (was : Place) (streams : StreamsOfNumber) (items : List Item)
     → CalmServes number _ _ _ _ v steps → Spelled config.max_upload stream was streams items
     → Accounts config.max_upload (line_after (stream ++ piece) at) (with_piece piece streams) (items ++ items_of number steps)
 serves_accounts {config} stream piece {moment = moment} number was streams items (all_served new {at} r w) h =
@@ -164,7 +164,7 @@ serves_accounts {config} stream piece {moment = moment} number was streams items
     (served_accounts config stream piece was at streams items new h r w))
 
 arrives_accounts : {config : Config} {piece : List ℕ} {moment : ℕ} {line after : Line} {s left : State} {sent : List ℕ} {answer : Arrived} {a : Arrives config piece moment line s sent left after answer} {steps : List SteppedItem}
-    (number : ℕ) (streams : Streams) (items : List Item)
+    (number : ℕ) (streams : StreamsOfNumber) (items : List Item)
     → CalmArrives number _ _ _ _ _ _ a steps → Accounts config.max_upload line streams items
     → Accounts config.max_upload after (with_piece piece streams) (items ++ items_of number steps)
 unfolding Accounts
@@ -175,40 +175,40 @@ arrives_accounts {config} {piece} number streams items shut_line h =
 
 -- ---- one event
 
-accounts_if : (limit : ℕ) (b : Bool) (line line' : Line) (s s' : Streams) (items : List Item) → Accounts limit line' s' items → Accounts limit line s items
+accounts_if : (limit : ℕ) (b : Bool) (line line' : Line) (s s' : StreamsOfNumber) (items : List Item) → Accounts limit line' s' items → Accounts limit line s items
     → Accounts limit (if b then line' else line) (if b then s' else s) items
 accounts_if limit true line line' s s' items h k = h
 accounts_if limit false line line' s s' items h k = k
 
-arrive_if : (limit : ℕ) (b : Bool) (line after : Line) (s : Streams) (piece : List ℕ) (items next : List Item)
+arrive_if : (limit : ℕ) (b : Bool) (line after : Line) (s : StreamsOfNumber) (piece : List ℕ) (items next : List Item)
     → (b ≡ true → Accounts limit after (with_piece piece s) (items ++ next)) → (b ≡ false → next ≡ []) → Accounts limit line s items
     → Accounts limit (if b then after else line) (if b then with_piece piece s else s) (items ++ next)
 arrive_if limit true line after s piece items next h e k = h refl
 arrive_if limit false line after s piece items next h e k = subst (λ l. Accounts limit line s l) (sym (ap (λ l. items ++ l) (e refl) ∙ append-nil items)) k
 
 -- a piece for a connection that is not there
-unknown_accounts : (limit : ℕ) (line : Line) (s : Streams) (piece : List ℕ) (items : List Item) → line ≡ Absent → Accounts limit line s items → Accounts limit line (with_piece piece s) items
+unknown_accounts : (limit : ℕ) (line : Line) (s : StreamsOfNumber) (piece : List ℕ) (items : List Item) → line ≡ Absent → Accounts limit line s items → Accounts limit line (with_piece piece s) items
 unfolding Accounts
 unknown_accounts limit Absent s piece items e h = (ap (option_map (λ (x : List ℕ). x ++ piece)) h.0, h.1)
 unknown_accounts limit (Live stream) s piece items e h = cc
 unknown_accounts limit ShutLine s piece items e h = cc
 
-unknown_if : (limit : ℕ) (b : Bool) (line : Line) (s : Streams) (piece : List ℕ) (items : List Item) → (b ≡ true → line ≡ Absent) → Accounts limit line s items
+unknown_if : (limit : ℕ) (b : Bool) (line : Line) (s : StreamsOfNumber) (piece : List ℕ) (items : List Item) → (b ≡ true → line ≡ Absent) → Accounts limit line s items
     → Accounts limit line (if b then with_piece piece s else s) items
 unknown_if limit true line s piece items e h = unknown_accounts limit line s piece items (e refl) h
 unknown_if limit false line s piece items e h = h
 
-happens_accounts : {config : Config} {w w' : World} {event : Event} {sent : List ℕ} {h : Happens config w event sent w'} {steps : List SteppedItem}
-    (n : ℕ) (streams : Streams) (items : List Item) → Calm _ _ _ h steps → Accounts config.max_upload (w.line n) streams items
+happens_accounts : {config : Config} {w w' : World} {event : ServerEvent} {sent : List ℕ} {h : Happens config w event sent w'} {steps : List SteppedItem}
+    (n : ℕ) (streams : StreamsOfNumber) (items : List Item) → Calm _ _ _ h steps → Accounts config.max_upload (w.line n) streams items
     → Accounts config.max_upload (w'.line n) (with_event n streams event) (items ++ items_of n steps)
 happens_accounts {config} {w} n streams items (connect {n = m}) a =
     let limit = config.max_upload in
-    let s' : Streams = record { closed = all_streams streams; current = Some [] } in
+    let s' : StreamsOfNumber = record { closed = all_streams streams; current = Some [] } in
     subst (λ l. Accounts limit (if n == m then Live [] else w.line n) (if n == m then s' else streams) l) (sym (append-nil items))
     (accounts_if limit (n == m) (w.line n) (Live []) streams s' items (opened_accounts limit streams items (accounts_all limit (w.line n) streams items a)) a)
 happens_accounts {config} {w} n streams items (close {n = m}) a =
     let limit = config.max_upload in
-    let s' : Streams = record { closed = all_streams streams; current = None } in
+    let s' : StreamsOfNumber = record { closed = all_streams streams; current = None } in
     subst (λ l. Accounts limit (if n == m then Absent else w.line n) (if n == m then s' else streams) l) (sym (append-nil items))
     (accounts_if limit (n == m) (w.line n) Absent streams s' items (closed_accounts limit streams items (accounts_all limit (w.line n) streams items a)) a)
 happens_accounts {config} {w} n streams items (arrive {n = m} {piece = piece} {line = line} {steps = steps} x c) a =
@@ -230,11 +230,11 @@ run_accounts {config} n (one_more {records} {event} {sent} {w} {w'} {steps} {nex
     subst (λ l. Accounts config.max_upload (w'.line n) (streams_over n (records ++ record { event = event; sent = sent } ∷ [])) l)
     (sym (flat_map-append (λ (t : SteppedItem). if n == t.number then t.item ∷ [] else []) steps next))
     (subst (λ s. Accounts config.max_upload (w'.line n) s (items_of n steps ++ items_of n next))
-    (sym (fold-append (λ (s : Streams) (r : Record). with_event n s r.event) (record { closed = []; current = None }) records (record { event = event; sent = sent } ∷ [])))
+    (sym (fold-append (λ (s : StreamsOfNumber) (r : Record). with_event n s r.event) (record { closed = []; current = None }) records (record { event = event; sent = sent } ∷ [])))
     (happens_accounts n (streams_over n records) (items_of n steps) k (run_accounts n c)))
-run_accounts {config} n (one_stop {records} {w} {steps} r c) =
+run_accounts {config} n (stop {records} {w} {steps} r c) =
     subst (λ s. Accounts config.max_upload Absent s (items_of n steps))
-    (sym (fold-append (λ (s : Streams) (r : Record). with_event n s r.event) (record { closed = []; current = None }) records (stopped ∷ [])))
+    (sym (fold-append (λ (s : StreamsOfNumber) (r : Record). with_event n s r.event) (record { closed = []; current = None }) records (stopped ∷ [])))
     (closed_accounts config.max_upload (streams_over n records) (items_of n steps)
     (accounts_all config.max_upload (w.line n) (streams_over n records) (items_of n steps) (run_accounts n c)))
 

@@ -29,10 +29,10 @@ use Rattle.dep_router.specs.declared.routed.Routed.{Routed}
 use Rattle.dep_router.specs.declared.routed.Routed.TheVariants.{To}
 use Rattle.dep_exchange.specs.Machine.{operation_of, routed_step, step, starting_state, Fails, given_up, cut_short, Serves, serves_all, step_fails, gives_up}
 use Rattle.dep_exchange.specs.Stops.{LeftByFailure, LeftByServing}
-use Rattle.dep_exchange.specs.Records.{Event, Record, Line, World, Arrives, at_live, at_shut_line, LeftByArrival, Happens, connects, closes, arrives, unknown, Run, begins, goes_on, stops, breaks}
+use Rattle.dep_exchange.specs.Records.{ServerEvent, Record, Line, World, Arrives, at_live, at_shut_line, LeftByArrival, Happens, connects, closes, arrives, unknown, Run, begins, goes_on, stops, breaks}
 use Rattle.dep_exchange.specs.declared.arrived.Arrived.{Arrived}
 use Rattle.dep_server.specs.Acknowledged.{RunsThrough, HasSegment, BeginsWithStatus}
-use Rattle.dep_server.specs.Requests.{IsAccepted}
+use Rattle.dep_server.specs.Requests.{IsLetThrough}
 use Rattle.dep_server.specs.TakenAgain.{FailsAt, ArrivalFailsAt, EventFailsAt, EndsInWork, IsAcknowledged}
 use Rattle.dep_server.proofs.Acknowledging.{fields_text, front_begins, named_segment}
 use Rattle.dep_server.specs.Moves.{Move, Made, moves_of, state_by}
@@ -136,7 +136,7 @@ module _ {config : Config} where
   found_after_arrival (at_live serves) found l item began in_work = found_after_serving serves found l item began in_work
   found_after_arrival at_shut_line found l item began in_work = absurd in_work
 
-  after_event : {w w' : World} {event : Event} {sent : List ℕ} (happens : Happens config w event sent w') (item : Item) (moment : ℕ) (began : State)
+  after_event : {w w' : World} {event : ServerEvent} {sent : List ℕ} (happens : Happens config w event sent w') (item : Item) (moment : ℕ) (began : State)
       → EventFailsAt happens item moment began → IsLeft config began item moment w'.state
   after_event connects item moment began in_work = absurd in_work
   after_event closes item moment began in_work = absurd in_work
@@ -158,7 +158,7 @@ step_accepted config s op None e = refl
 step_accepted config s op (Some r) e = absurd (cc e)
 
 -- the step that accepts it makes of the state what is asked for
-step_is : (config : Config) (s : State) (m : Message) (moment u : ℕ) → IsAccepted config (tick config s moment) m (posted_to u)
+step_is : (config : Config) (s : State) (m : Message) (moment u : ℕ) → IsLetThrough config (tick config s moment) m (posted_to u)
     → (step config s (Request m) moment).state ≡ effect config (tick config s moment) (operation_of m (posted_to u))
 unfolding step operation_step
 step_is config s m moment u accepted =
@@ -190,7 +190,7 @@ module _ (config : Config) (m : Message) (u k : ℕ) (kind : content_kind (opera
       ∙ get-insert_same s.uploads u (with_segment s k m.content x)
 
   -- accepted at a tick, it is so at a later tick of what is left
-  again : (s left : State) (moment later : ℕ) (y : Upload) → IsAccepted config (tick config s moment) m (posted_to u) → IsLeft config s (Request m) moment left
+  again : (s left : State) (moment later : ℕ) (y : Upload) → IsLetThrough config (tick config s moment) m (posted_to u) → IsLeft config s (Request m) moment left
       → map.get (tick config left later).uploads u ≡ Some y → refusal config (tick config left later) sent ≡ None
   again s left moment later y accepted is there =
       let t = tick config s moment in
@@ -208,7 +208,7 @@ module _ (config : Config) (m : Message) (u k : ℕ) (kind : content_kind (opera
 
 -- what was in work at the end of a run
 pub after_work : (config : Config) (first : State) (records : List Record) (w : World) (r : Run config first records w) (m : Message) (moment u : ℕ) (began : State)
-    → EndsInWork r (Request m) moment began → IsAccepted config (tick config began moment) m (posted_to u) → IsAcceptedStill config w.state m u
+    → EndsInWork r (Request m) moment began → IsLetThrough config (tick config began moment) m (posted_to u) → IsAcceptedStill config w.state m u
 after_work config first records w r m moment u began in_work accepted later there =
     let k = named_segment config (tick config began moment) m u accepted.passed in
     let y = some_of (map.get (tick config w.state later).uploads u) there in
@@ -231,7 +231,7 @@ module _ (config : Config) (m : Message) (u k : ℕ) (kind : content_kind (opera
 -- ---- once its step is made
 
 pub after_step : (config : Config) (first : State) (records : List Record) (w : World) (r : Run config first records w) (before behind : List Move) (m : Message) (moment u : ℕ)
-    → IsSound first → moves_of r ≡ before ++ Made (Request m) moment ∷ behind → IsAccepted config (tick config (state_by config first before) moment) m (posted_to u)
+    → IsSound first → moves_of r ≡ before ++ Made (Request m) moment ∷ behind → IsLetThrough config (tick config (state_by config first before) moment) m (posted_to u)
     → IsAcceptedStill config w.state m u
 after_step config first records w r before behind m moment u sound split accepted later there =
     let s = state_by config first before in
@@ -265,7 +265,7 @@ good_there config m u k kind s moment sound passed =
     (x.0, was_there config s moment u x.0 x.1, let_through_is_good x.0 k m.content passes ((keeps_sound config s moment sound).uploads u x.0 x.1).segments)
 
 pub after_all : (config : Config) (first : State) (records : List Record) (w : World) (r : Run config first records w) (through : State) (m : Message) (moment u k : ℕ)
-    → IsSound first → RunsThrough r through → IsAccepted config (tick config through moment) m (posted_to u)
+    → IsSound first → RunsThrough r through → IsLetThrough config (tick config through moment) m (posted_to u)
     → content_kind (operation_of m (posted_to u)) ≡ Some (of.Segment k)
     → ((bytes : List ℕ) → HasSegment w.state u k bytes → bytes ≡ m.content) → IsAcceptedStill config w.state m u
 after_all config first records w r through m moment u k sound t accepted kind alone later there =

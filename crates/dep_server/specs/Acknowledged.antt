@@ -15,10 +15,10 @@ use Rattle.dep_decisions.specs.Decisions.{decision}
 use Rattle.dep_decisions.specs.Effects.{used}
 use Rattle.dep_decisions.specs.Laws.{posted_to}
 use Rattle.dep_server.specs.Moves.{Move, Made, Begun, state_by}
-use Rattle.dep_server.specs.Requests.{IsAccepted}
+use Rattle.dep_server.specs.Requests.{IsLetThrough}
 use Rattle.dep_server.specs.Runs.{AnyRun, PointOf, state_at}
 use Rattle.dep_exchange.specs.Machine.{operation_of, state_after, Serves, serves_all, step_fails, gives_up}
-use Rattle.dep_exchange.specs.Records.{Event, Record, Line, World, Run, begins, goes_on, stops, breaks, Happens, connects, closes, arrives, unknown, Arrives, at_live, at_shut_line}
+use Rattle.dep_exchange.specs.Records.{ServerEvent, Record, Line, World, Run, begins, goes_on, stops, breaks, Happens, connects, closes, arrives, unknown, Arrives, at_live, at_shut_line}
 use Rattle.dep_exchange.specs.declared.arrived.Arrived.{Arrived}
 
 -- the state after some of these items
@@ -49,7 +49,7 @@ abbrev pub ArrivesThrough : {config : Config} {piece : List ℕ} {moment : ℕ} 
 ArrivesThrough (at_live serves) through = ServesThrough serves through
 ArrivesThrough at_shut_line through = ⊥
 
-abbrev pub HappensThrough : {config : Config} {w w' : World} {event : Event} {sent : List ℕ}
+abbrev pub HappensThrough : {config : Config} {w w' : World} {event : ServerEvent} {sent : List ℕ}
     → Happens config w event sent w' → State → Type 0
 HappensThrough connects through = ⊥
 HappensThrough closes through = ⊥
@@ -104,7 +104,7 @@ TimesOut config s moment number = IsTrue (expires config (clock_at s moment) s.u
 -- an accepted request deposits it or deletes it
 pub record IsUsed (config : Config) (s : State) (m : Message) (number : ℕ) : Type 0 where
   pub target : Target
-  pub accepted : IsAccepted config s m target
+  pub accepted : IsLetThrough config s m target
   pub among : IsTrue (list_any (nat_eq number) (used (decision config (operation_of m target))))
 
 abbrev pub EndsUpload : Config → State → Move → (number : ℕ) → Type 0

@@ -3,7 +3,7 @@ use Rattle.std.specs.Prelude.{◌≡◌, ℕ, List, [], ◌∷◌, ◌++◌, Opt
 use Rattle.dep_types.specs.State.{State}
 use Rattle.dep_types.specs.Conditions.{Condition}
 use Rattle.dep_exchange.specs.Records.{Connect, Arrive, Close, Record, World}
-use Rattle.dep_hub.specs.Representing.{RepresentsAt, RepresentsAfter, Adds, ComesTo}
+use Rattle.dep_hub.specs.Representing.{RepresentsAt, RepresentsAfter, AddsRecord, ComesTo}
 use Rattle.dep_hub.specs.declared.hub.Hub.{Hub}
 use Rattle.dep_exchange.specs.declared.arrived.Arrived.{Arrived}
 use Rattle.dep_exchange.specs.declared.arrived.Arrived.TheVariants.{Open as StaysOpen, Closed, Cut, NoSuch}
@@ -13,10 +13,10 @@ module _ {A : Type 0} (condition : A → Condition) where
   pub record Connects (old new : Hub A) (number : ℕ) : Type 0 where
     pub config : new.config ≡ old.config
     pub store : new.store ≡ old.store
-    pub adds : Adds condition old new (Connect number) []
+    pub adds : AddsRecord condition old new (Connect number) []
 
   -- no connection could be opened (`Hub::connect`)
-  pub record Refuses (old new : Hub A) : Type 0 where
+  pub record RefusesConnection (old new : Hub A) : Type 0 where
     pub config : new.config ≡ old.config
     pub store : new.store ≡ old.store
     pub same : (w : World) → RepresentsAt condition old w → RepresentsAt condition new w
@@ -25,7 +25,7 @@ module _ {A : Type 0} (condition : A → Condition) where
   pub record Closes (old new : Hub A) (number : ℕ) : Type 0 where
     pub config : new.config ≡ old.config
     pub store : new.store ≡ old.store
-    pub adds : Adds condition old new (Close number) []
+    pub adds : AddsRecord condition old new (Close number) []
 
   -- a piece of the stream of this number came, and was answered over an outlet, by what the outlet shows
   -- before and after (`Hub::arrive`)
@@ -54,7 +54,7 @@ module _ {A : Type 0} (condition : A → Condition) where
   pub data Call (old new : Hub A) : List Record → Type 0 where
     connects : (number : ℕ) → Connects old new number
         → Call old new (record { event = Connect number; sent = [] } ∷ [])
-    refuses : Refuses old new → Call old new []
+    refuses : RefusesConnection old new → Call old new []
     closes : (number : ℕ) → Closes old new number
         → Call old new (record { event = Close number; sent = [] } ∷ [])
     arrives : (number : ℕ) (piece : List ℕ) (moment : ℕ) (answer : Arrived)

@@ -6,7 +6,7 @@ use Rattle.dep_types.specs.declared.config.Config.{Config}
 use Rattle.dep_message.specs.Places.{Place}
 use Rattle.dep_message.specs.Stream.{Item, Waits}
 use Rattle.dep_exchange.specs.Machine.{Serves, serves_all}
-use Rattle.dep_exchange.specs.Records.{Event, Connect, Arrive, Close, Stop, Record, Line, Absent, World, Run, begins, goes_on, stops, Happens, connects, closes, arrives, unknown, Arrives, at_live, at_shut_line, ReadsBeyond}
+use Rattle.dep_exchange.specs.Records.{ServerEvent, Connect, Arrive, Close, Stop, Record, Line, Absent, World, Run, begins, goes_on, stops, Happens, connects, closes, arrives, unknown, Arrives, at_live, at_shut_line, ReadsBeyond}
 use Rattle.dep_exchange.specs.declared.arrived.Arrived.{Arrived}
 use Rattle.dep_server.specs.Runs.{AnyRun}
 
@@ -42,7 +42,7 @@ pub data CalmArrives {config : Config} {piece : List ℕ} {moment : ℕ} (number
 
 -- an event
 pub data Calm {config : Config} {w : World}
-    : (event : Event) → (sent : List ℕ) → (w' : World) → Happens config w event sent w'
+    : (event : ServerEvent) → (sent : List ℕ) → (w' : World) → Happens config w event sent w'
     → List SteppedItem → Type 0 where
   connect : {n : ℕ} → Calm _ _ _ (connects {n = n}) []
   close : {n : ℕ} → Calm _ _ _ (closes {n = n}) []
@@ -58,7 +58,7 @@ pub data CalmRun {config : Config} {first : State}
     : (records : List Record) → (w : World) → Run config first records w → List SteppedItem
     → Type 0 where
   nothing : CalmRun _ _ begins []
-  more : {records : List Record} {event : Event} {sent : List ℕ} {w w' : World}
+  more : {records : List Record} {event : ServerEvent} {sent : List ℕ} {w w' : World}
       {steps next : List SteppedItem}
       (r : Run config first records w) (h : Happens config w event sent w')
       → CalmRun _ _ r steps → Calm _ _ _ h next → CalmRun _ _ (goes_on r h) (steps ++ next)
@@ -78,7 +78,7 @@ pub record BeginAlike (a b : AnyCalmRun) : Type 0 where
   pub first : a.run.first ≡ b.run.first
 
 -- an event of the connection of this number
-abbrev pub is_event_of : ℕ → Event → Bool
+abbrev pub is_event_of : ℕ → ServerEvent → Bool
 is_event_of n (Connect m) = m == n
 is_event_of n (Arrive m piece moment) = m == n
 is_event_of n (Close m) = m == n
@@ -92,6 +92,6 @@ abbrev pub sent_to : ℕ → List Record → List ℕ
 sent_to n records = flat_map (λ r. bytes_if (is_event_of n r.event) r.sent) records
 
 -- they send the same bytes, each connection its own, and end in the same state
-pub record EndAlike (a b : AnyCalmRun) : Type 0 where
+pub record RunsEndAlike (a b : AnyCalmRun) : Type 0 where
   pub sent : (n : ℕ) → sent_to n a.run.records ≡ sent_to n b.run.records
   pub state : a.run.last.state ≡ b.run.last.state

@@ -10,7 +10,7 @@ use Rattle.dep_decisions.specs.Decisions.{references_in}
 use Rattle.dep_decisions.specs.Laws.{IsDepositedFrom, deposited_object, takes_file}
 use Rattle.dep_exchange.specs.Machine.{operation_of}
 use Rattle.dep_server.specs.Moves.{Move, Made, state_by}
-use Rattle.dep_server.specs.Requests.{AnyRequest, step_of, ticked, left_by, IsAccepted, IsAcceptedFor}
+use Rattle.dep_server.specs.Requests.{AnyRequest, step_of, ticked, left_by, IsLetThrough, IsAcceptedFor}
 use Rattle.dep_server.specs.Runs.{AnyRun, PointOf, state_at, RequestIn, as_it_came}
 
 -- one of these moves, from this state on, replaces the file or deletes it: it is the step of an
@@ -24,7 +24,7 @@ pub record IsTaken (config : Config) (s : State) (moves : List Move)
   pub target : Target
   pub among : moves ≡ before ++ Made (Request message) moment ∷ behind
   pub accepted :
-      IsAccepted config (tick config (state_by config s before) moment) message target
+      IsLetThrough config (tick config (state_by config s before) moment) message target
   pub takes : IsTrue (takes_file object file target)
 
 -- the object that a deposit at this resource adds its files to

@@ -7,7 +7,7 @@ use Rattle.dep_message.specs.Places.{Place}
 use Rattle.dep_message.specs.Stream.{Item}
 use Rattle.dep_exchange.specs.Machine.{step, starting_state, Fails, given_up, cut_short, Serves, serves_all, step_fails, gives_up}
 use Rattle.dep_exchange.specs.Stops.{LeftByFailure, LeftByServing}
-use Rattle.dep_exchange.specs.Records.{Event, Record, Line, World, Arrives, at_live, at_shut_line, LeftByArrival, Happens, connects, closes, arrives, unknown, Run, begins, goes_on, stops, breaks}
+use Rattle.dep_exchange.specs.Records.{ServerEvent, Record, Line, World, Arrives, at_live, at_shut_line, LeftByArrival, Happens, connects, closes, arrives, unknown, Run, begins, goes_on, stops, breaks}
 use Rattle.dep_exchange.specs.declared.arrived.Arrived.{Arrived}
 
 -- the step of an item is made; or it is only begun, and given up
@@ -54,7 +54,7 @@ abbrev pub moves_by_arrival : {config : Config} {piece : List ℕ} {moment : ℕ
 moves_by_arrival (at_live serves) = moves_by_serving serves
 moves_by_arrival at_shut_line = []
 
-abbrev pub moves_by_event : {config : Config} {w w' : World} {event : Event} {sent : List ℕ}
+abbrev pub moves_by_event : {config : Config} {w w' : World} {event : ServerEvent} {sent : List ℕ}
     → Happens config w event sent w' → List Move
 moves_by_event connects = []
 moves_by_event closes = []

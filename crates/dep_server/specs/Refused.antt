@@ -34,7 +34,7 @@ refusal_in x = item_refusal x.config (ticked x) x.item
 
 -- the step leaves this state, and what is sent for it is the reply to the refusal, or its head, and
 -- nothing behind it
-pub record IsRefused (s : State) (r : Refusal) (stepped : Stepped) : Type 0 where
+pub record IsRefusedWith (s : State) (r : Refusal) (stepped : Stepped) : Type 0 where
   pub state : stepped.state ≡ s
   pub allow : Option (List ℕ)
   pub is_head_only : Bool

@@ -50,13 +50,13 @@ abbrev pub reply_to : AnyRequest → List ℕ
 reply_to q = sent_by (made (step_of q))
 
 -- a request for this resource is let through, in the state that its tick leaves
-pub record IsAccepted (config : Config) (s : State) (m : Message) (t : Target) : Type 0 where
+pub record IsLetThrough (config : Config) (s : State) (m : Message) (t : Target) : Type 0 where
   pub named : target m.head.method m.head.path ≡ To t
   pub passed : refusal config s (operation_of m t) ≡ None
 
 -- it is accepted as a request for this resource
 abbrev pub IsAcceptedFor : AnyRequest → Target → Type 0
-IsAcceptedFor q t = IsAccepted q.config (ticked (step_of q)) q.message t
+IsAcceptedFor q t = IsLetThrough q.config (ticked (step_of q)) q.message t
 
 -- it is accepted as a POST to this upload
 abbrev pub IsPostAccepted : AnyRequest → (upload : ℕ) → Type 0

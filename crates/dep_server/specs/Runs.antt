@@ -5,7 +5,7 @@ use Rattle.dep_types.specs.declared.config.Config.{Config}
 use Rattle.dep_message.specs.declared.message.Message.{Message}
 use Rattle.dep_message.specs.Stream.{Request}
 use Rattle.dep_exchange.specs.Records.{Record, World, Run}
-use Rattle.dep_connection.specs.Turns.{Turn, Exchanges, with_opened}
+use Rattle.dep_connection.specs.Turns.{ServedPiece, Exchanges, with_opened}
 use Rattle.dep_server.specs.Moves.{Move, Made, moves_of, state_by}
 use Rattle.dep_server.specs.Requests.{AnyRequest}
 
@@ -23,7 +23,7 @@ ContinuesTo r more w = Run r.config r.first (r.records ++ more) w
 
 -- the machine answers these turns of a connection that is opened at its end, and is in this world
 -- then
-abbrev pub TalksThen : AnyRun → (number : ℕ) → List Turn → World → Type 0
+abbrev pub TalksThen : AnyRun → (number : ℕ) → List ServedPiece → World → Type 0
 TalksThen r number turns talked = Exchanges r.config number (with_opened number r.last) turns talked
 
 -- a request that comes in this state at this moment, under the configuration of a run

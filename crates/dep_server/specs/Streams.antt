@@ -4,20 +4,20 @@ use Rattle.std.specs.List.{flat_map, fold}
 use Rattle.std.specs.Option.{option_map, option_map_or}
 use Rattle.dep_message.specs.Places.{Place}
 use Rattle.dep_message.specs.Stream.{Item, Spells}
-use Rattle.dep_exchange.specs.Records.{Event, Connect, Arrive, Close, Stop, Record}
+use Rattle.dep_exchange.specs.Records.{ServerEvent, Connect, Arrive, Close, Stop, Record}
 use Rattle.dep_server.specs.Calm.{SteppedItem, AnyCalmRun}
 
 -- the streams of a number: one for each time that it was opened, the last of them open still or not
-pub record Streams : Type 0 where
+pub record StreamsOfNumber : Type 0 where
   pub closed : List (List ℕ)
   pub current : Option (List ℕ)
 
 -- all of them, in their order
-abbrev pub all_streams : Streams → List (List ℕ)
+abbrev pub all_streams : StreamsOfNumber → List (List ℕ)
 all_streams s = s.closed ++ option_map_or (λ stream. stream ∷ []) s.current []
 
 -- a piece goes on with the stream that is open, if there is one; a stop ends it
-abbrev pub with_event : ℕ → Streams → Event → Streams
+abbrev pub with_event : ℕ → StreamsOfNumber → ServerEvent → StreamsOfNumber
 with_event n s (Connect m) =
     if n == m then record { closed = all_streams s; current = Some [] } else s
 with_event n s (Arrive m piece moment) =
@@ -25,7 +25,7 @@ with_event n s (Arrive m piece moment) =
 with_event n s (Close m) = if n == m then record { closed = all_streams s; current = None } else s
 with_event n s Stop = record { closed = all_streams s; current = None }
 
-abbrev pub streams_over : ℕ → List Record → Streams
+abbrev pub streams_over : ℕ → List Record → StreamsOfNumber
 streams_over n records =
     fold (λ s r. with_event n s r.event) (record { closed = []; current = None }) records
 

@@ -7,7 +7,7 @@ use Rattle.dep_message.specs.Places.{Place}
 use Rattle.dep_message.specs.Stream.{Item, Request}
 use Rattle.dep_message.specs.declared.message.Message.{Message}
 use Rattle.dep_exchange.specs.Machine.{state_after, Serves, serves_all, step_fails, gives_up}
-use Rattle.dep_exchange.specs.Records.{Event, Record, Line, World, Arrives, at_live, at_shut_line, Happens, connects, closes, arrives, unknown, Run, begins, goes_on, stops, breaks}
+use Rattle.dep_exchange.specs.Records.{ServerEvent, Record, Line, World, Arrives, at_live, at_shut_line, Happens, connects, closes, arrives, unknown, Run, begins, goes_on, stops, breaks}
 use Rattle.dep_exchange.specs.declared.arrived.Arrived.{Arrived}
 use Rattle.dep_server.specs.Acknowledged.{WasAt, BeginsWithStatus}
 use Rattle.dep_server.specs.Requests.{AnyRequest, reply_to, IsPostAccepted, IsAcceptedSegment}
@@ -30,7 +30,7 @@ abbrev pub ArrivalFailsAt : {config : Config} {piece : List ℕ} {moment : ℕ} 
 ArrivalFailsAt (at_live serves) item began = FailsAt serves item began
 ArrivalFailsAt at_shut_line item began = ⊥
 
-abbrev pub EventFailsAt : {config : Config} {w w' : World} {event : Event} {sent : List ℕ}
+abbrev pub EventFailsAt : {config : Config} {w w' : World} {event : ServerEvent} {sent : List ℕ}
     → Happens config w event sent w' → Item → (moment : ℕ) → State → Type 0
 EventFailsAt connects item moment began = ⊥
 EventFailsAt closes item moment began = ⊥

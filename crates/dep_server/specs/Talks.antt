@@ -2,7 +2,7 @@
 use Rattle.std.specs.Prelude.{ℕ, Bool, List, Option}
 use Rattle.dep_types.specs.declared.config.Config.{Config}
 use Rattle.dep_exchange.specs.Records.{World}
-use Rattle.dep_connection.specs.Turns.{Turn, Exchanges, EndsAs}
+use Rattle.dep_connection.specs.Turns.{ServedPiece, Exchanges, EndsAs}
 use Rattle.dep_connection.specs.declared.connection.Served.{Served}
 
 -- the turns of a connection, which the machine answered from the first world to the last, and why
@@ -11,7 +11,7 @@ pub record EndedTalk : Type 0 where
   pub config : Config
   pub number : ℕ
   pub first : World
-  pub turns : List Turn
+  pub turns : List ServedPiece
   pub last : World
   pub unread : Option (List ℕ)
   pub has_failed : Bool

@@ -10,18 +10,18 @@ ghost use Rattle.dep_message.specs.declared.message.Message.{Message};
 ghost use Rattle.dep_docs_in.specs.declared.reference.Reference.{Reference};
 ghost use Rattle.dep_exchange.specs.Machine.{out_of_memory, store_fault};
 ghost use Rattle.dep_exchange.specs.Records.{Record, World};
-ghost use Rattle.dep_connection.specs.Turns.{Turn, records_of, with_closed, IsEndedBy};
+ghost use Rattle.dep_connection.specs.Turns.{ServedPiece, records_of, with_closed, IsEndedBy};
 ghost use Rattle.dep_hub.specs.Representing.{IsClean};
 ghost use Rattle.dep_hub.specs.declared.hub.Hub.{Hub};
 ghost use Rattle.dep_server.specs.Requests.{AnyStep, ticked, made, AnyRequest, left_by, reply_to, IsPostAccepted, IsPostedTo, IsAcceptedSegment};
 ghost use Rattle.dep_server.specs.Runs.{AnyRun, ContinuesTo, TalksThen, PointOf, state_at, RequestIn, as_it_came};
 ghost use Rattle.dep_server.specs.Talks.{EndedTalk};
 ghost use Rattle.dep_server.specs.Calls.{Calls, RepresentsMore};
-ghost use Rattle.dep_server.specs.Calm.{AnyCalmRun, BeginAlike, EndAlike};
+ghost use Rattle.dep_server.specs.Calm.{AnyCalmRun, BeginAlike, RunsEndAlike};
 ghost use Rattle.dep_server.specs.Streams.{AreSpelled, streams_of, items_of, HaveSameStreams, HaveSameItems, HaveSameSchedulePoints};
 ghost use Rattle.dep_server.specs.HeadOnly.{step_as, IsWithoutBody};
 ghost use Rattle.dep_server.specs.ReplyHeads.{IsUnsplit};
-ghost use Rattle.dep_server.specs.Refused.{refusal_in, IsRefused};
+ghost use Rattle.dep_server.specs.Refused.{refusal_in, IsRefusedWith};
 ghost use Rattle.dep_server.specs.Moves.{moves_of, state_by};
 ghost use Rattle.dep_server.specs.Acknowledged.{WasAt, HasSegment, HasNoOther, IsGone, BeginsWithStatus, IsReceived, SegmentStaysFrom};
 ghost use Rattle.dep_server.specs.TakenAgain.{RequestInWork, as_begun, CouldTake, IsTakenAgain};
@@ -41,7 +41,7 @@ pub fn calls_stand_for_their_records<A: Archive>()
 /// Runs without failed steps that make the same steps send the same bytes, each connection its own,
 /// and end in the same state.
 pub fn cuts_move_moments_of_runs()
-    ensures { (a b : AnyCalmRun) → BeginAlike a b → a.steps ≡ b.steps → EndAlike a b }
+    ensures { (a b : AnyCalmRun) → BeginAlike a b → a.steps ≡ b.steps → RunsEndAlike a b }
 {}
 
 /// A run without failed steps makes of the streams of each connection the items that they spell,
@@ -59,7 +59,7 @@ pub fn cuts_move_schedule_points()
     ensures items { (a b : AnyCalmRun) → BeginAlike a b → HaveSameStreams a b
         → HaveSameItems a b }
     ensures end { (a b : AnyCalmRun) → BeginAlike a b → HaveSameStreams a b
-        → HaveSameSchedulePoints a b → EndAlike a b }
+        → HaveSameSchedulePoints a b → RunsEndAlike a b }
 {}
 
 /// A HEAD is stepped as the GET of the same path: its reply has the same head, with the length of the body,
@@ -91,7 +91,7 @@ pub fn runs_keep_sound()
 /// A refused item changes nothing but what its tick does, and is sent the reply to its refusal.
 pub fn refused_items_change_nothing()
     ensures { (step : AnyStep) (why : Refusal) → refusal_in step ≡ Some why
-        → IsRefused (ticked step) why (made step) }
+        → IsRefusedWith (ticked step) why (made step) }
 {}
 
 /// The moves of a run lead from its first state to its last.
@@ -172,7 +172,7 @@ pub fn deposited_files_stay()
 
 /// What the machine answers to the turns of a connection is a run, from its opening to its close.
 pub fn turns_make_a_run()
-    ensures { (run : AnyRun) (number : ℕ) (turns : List Turn) (talked : World)
+    ensures { (run : AnyRun) (number : ℕ) (turns : List ServedPiece) (talked : World)
         → TalksThen run number turns talked
         → ContinuesTo run (records_of number turns) (with_closed number talked) }
 {}
@@ -181,6 +181,6 @@ pub fn turns_make_a_run()
 /// longer: where a reply was cut, because the outlet failed, and where it was closed, because of that. Where the
 /// outlet has given up behind the last turn, the connection ended because of that, whatever the turn came to.
 pub fn last_turn_reports_the_end()
-    ensures { (talk : EndedTalk) (before behind : List Turn) (t : Turn)
+    ensures { (talk : EndedTalk) (before behind : List ServedPiece) (t : ServedPiece)
         → talk.turns ≡ before ++ t ∷ behind → IsEndedBy t.answer talk.has_failed behind talk.end }
 {}

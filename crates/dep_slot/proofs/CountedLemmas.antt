@@ -8,7 +8,7 @@ use Rattle.dep_slot.specs.declared.connection_state.ConnectionState.{ConnectionS
 use Rattle.dep_slot.specs.declared.connection_state.NextAction.{NextAction}
 use Rattle.dep_slot.specs.declared.connection_state.NextAction.TheVariants.{Flush, Answer, Send, Read, Finish, Drain, Wait}
 use Rattle.dep_slot.specs.Causes.{Causes}
-use Rattle.dep_slot.specs.Slots.{IsRead, MayRest, ActsOnce, TakesTurn, slot_action}
+use Rattle.dep_slot.specs.Slots.{PieceIsRead, MayRest, ActsOnce, TakesTurn, slot_action}
 
 module _ {A R K S : Type 0} (condition : A → Condition) (unread : R → Option (List ℕ)) (taken : K → Option (List ℕ)) (held : S → Option (List ℕ)) where
   -- what was sent in a turn is counted behind it
@@ -19,8 +19,8 @@ module _ {A R K S : Type 0} (condition : A → Condition) (unread : R → Option
   stirs_still : (mid : Slot R K S) (bytes : ℕ) → mid.state.has_moved ≡ true → (with_counted mid bytes).state.has_moved ≡ true
   stirs_still mid bytes h = ap (λ (b : Bool). b || nat_lt 0 bytes) h ∙ true-or (nat_lt 0 bytes)
 
-  read_counted : (before mid : Slot R K S) (bytes : ℕ) (piece : List ℕ) (is_full is_shut : Bool) → IsRead condition unread taken held before mid piece is_full is_shut
-      → IsRead condition unread taken held before (with_counted mid bytes) piece is_full is_shut
+  read_counted : (before mid : Slot R K S) (bytes : ℕ) (piece : List ℕ) (is_full is_shut : Bool) → PieceIsRead condition unread taken held before mid piece is_full is_shut
+      → PieceIsRead condition unread taken held before (with_counted mid bytes) piece is_full is_shut
   read_counted before mid bytes piece is_full is_shut r = record {
     unowed = r.unowed;
     waits = r.waits;

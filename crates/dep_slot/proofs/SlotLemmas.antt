@@ -6,11 +6,11 @@ use Rattle.std.proofs.Math.Bool.{or-true}
 use Rattle.std.proofs.KnownBytes.{Keeps-refl, Appends-kept, Keeps-trans, append_known-kept}
 use Rattle.std.specs.Io.KnownBytes.{Appends, Keeps, Consumes, IsAtEnd, append_known}
 use Rattle.dep_types.specs.Conditions.{Condition, HasCleanDisk}
-use Rattle.dep_hub.specs.Holding.{AnswersOver, ComesToNext, OffersTo, Outcome}
+use Rattle.dep_hub.specs.Holding.{AnswersOver, ComesToNext, OffersTo, ArrivalOutcome}
 use Rattle.dep_exchange.specs.Owing.{with_more}
 use Rattle.dep_hub.specs.Claims.{is_content}
 use Rattle.dep_hub.specs.Representing.{KeepsStore}
-use Rattle.dep_hub.specs.RepresentsOwing.{KeepsBack, NextIsFree, NextIsPrepared, RepliesOver, SendsOn as HubSends, behind_at}
+use Rattle.dep_hub.specs.RepresentsOwing.{KeepsBack, NextIsFree, NextIsPrepared, RepliesOver, SendsOn, behind_at}
 use Rattle.dep_hub.specs.declared.rest.Behind.TheVariants.{Broken}
 use Rattle.dep_hub.specs.declared.sent_on.SentOn.{SentOn}
 use Rattle.dep_hub.specs.Numbers.{most_read}
@@ -33,7 +33,7 @@ use Rattle.dep_slot.specs.declared.connection_state.NextAction.{NextAction}
 use Rattle.dep_slot.specs.declared.connection_state.NextAction.TheVariants.{Flush, Answer, Send, Read, Finish, Drain}
 use Rattle.dep_slot.specs.ConnectionStates.{is_ended, is_sending, SendsStill, StaysOrEnds}
 use Rattle.dep_slot.specs.Causes.{Causes, HasCauses}
-use Rattle.dep_slot.specs.Slots.{HubStays, PutsOff, SameBehind, SameClient, SendsOn, IsDue, IsUnknown, Rests, IsRead, MayRest, ActsOnce, TakesTurn, slot_action, left_unfinished, phase_answered, phase_offered, phase_sent}
+use Rattle.dep_slot.specs.Slots.{HubStays, PutsOff, SameBehind, SameClient, OwesLess, IsDue, IsUnknown, SlotRests, PieceIsRead, MayRest, ActsOnce, TakesTurn, slot_action, left_unfinished, phase_answered, phase_offered, phase_sent}
 use Rattle.dep_slot.proofs.PhaseLemmas.{not_open, not_ended, ended_still, still_same, sends_still, opened_still, finishes_last, sends_content, ended_sent, over_sent, not_yet, over_offered, over_answered}
 
 -- a socket that has ended, or failed, gave nothing
@@ -94,7 +94,7 @@ goes_as_was causes lost before after readable writable over = record {
 
 module _ {A R K S : Type 0} (condition : A → Condition) (unread : R → Option (List ℕ)) (taken : K → Option (List ℕ)) (held : S → Option (List ℕ)) where
   -- what was taken for an item stays taken
-  over_kept : (t k l more : Option (List ℕ)) (f g h : ℕ) (old new : Hub A) (n : ℕ) (offered : List ℕ → List ℕ) (moment : ℕ) (answer : Arrived) (outcome : Outcome)
+  over_kept : (t k l more : Option (List ℕ)) (f g h : ℕ) (old new : Hub A) (n : ℕ) (offered : List ℕ → List ℕ) (moment : ℕ) (answer : Arrived) (outcome : ArrivalOutcome)
       → AnswersOver condition t (with_more k more) f g old new n offered moment answer outcome → Keeps k l → h ≡ g → AnswersOver condition t (with_more l more) f h old new n offered moment answer outcome
   over_kept t k l more f g h old new n offered moment answer outcome a q same = subst (λ (x : ℕ). AnswersOver condition t (with_more l more) f x old new n offered moment answer outcome) (sym same)
       (record { sent = a.sent; appends = more_kept t k l more a.sent a.appends q; answers = a.answers; shut = a.shut })
@@ -170,7 +170,7 @@ module _ {A R K S : Type 0} (condition : A → Condition) (unread : R → Option
       }
 
   -- what was sent of a content stays sent
-  sends_kept : (t k l : Option (List ℕ)) (f g h : ℕ) (old new : Hub A) (n : ℕ) (answer : SentOn) → HubSends condition t k f g old new n answer → Keeps k l → h ≡ g → HubSends condition t l f h old new n answer
+  sends_kept : (t k l : Option (List ℕ)) (f g h : ℕ) (old new : Hub A) (n : ℕ) (answer : SentOn) → SendsOn condition t k f g old new n answer → Keeps k l → h ≡ g → SendsOn condition t l f h old new n answer
   sends_kept t k l f g h old new n answer s q same = record {
     sent = s.sent;
     appends = Appends-kept t k l s.sent s.appends q;
@@ -186,7 +186,7 @@ module _ {A R K S : Type 0} (condition : A → Condition) (unread : R → Option
 
   -- nothing came to the hub
   pub rested : (size : S → ℕ) (causes : Causes R K S) (hub : Hub A) (before after : Slot R K S) (moment : ℕ) (is_full is_shut may_send : Bool) (d : NextAction) → SameClient before after → (is_ended before.state.phase ≡ true → is_ended after.state.phase ≡ true)
-      → slot_action size before ≡ d → MayRest condition unread taken held size hub before after is_full is_shut may_send d → Rests condition unread taken held hub hub before after
+      → slot_action size before ≡ d → MayRest condition unread taken held size hub before after is_full is_shut may_send d → SlotRests condition unread taken held hub hub before after
       → HasCauses causes (IsUnknown hub before.connection) before after → TakesTurn condition unread taken held size causes hub hub before after moment is_full is_shut may_send
   rested size causes hub before after moment is_full is_shut may_send d client ended due may rests caused = record {
     client = client;
@@ -211,7 +211,7 @@ module _ {A R K S : Type 0} (condition : A → Condition) (unread : R → Option
 
   -- what is owed was sent, as far as the socket takes it
   pub flushed : (size : S → ℕ) (causes : Causes R K S) (hub : Hub A) (before after : Slot R K S) (moment : ℕ) (is_full is_shut may_send : Bool) (w : Wire K S) (c : ConnectionState) → after ≡ record before { wire = w; state = c }
-      → Keeps (reported taken held before.wire) (reported taken held after.wire) → StaysOrEnds before.state after.state → slot_action size before ≡ Flush → SendsOn size before after
+      → Keeps (reported taken held before.wire) (reported taken held after.wire) → StaysOrEnds before.state after.state → slot_action size before ≡ Flush → OwesLess size before after
       → HasCauses causes ⊥ before after → TakesTurn condition unread taken held size causes hub hub before after moment is_full is_shut may_send
   flushed size causes hub before after moment is_full is_shut may_send w c same keeps stays due sends caused =
       rested size causes hub before after moment is_full is_shut may_send Flush (record { connection = ap (λ (s : Slot R K S). s.connection) same; address = ap (λ (s : Slot R K S). s.address) same })
@@ -296,7 +296,7 @@ module _ {A R K S : Type 0} (condition : A → Condition) (unread : R → Option
       }) (lost_too causes ⊥ (IsUnknown hub before.connection) before after (λ h. absurd h) caused)
 
   -- a piece that was read was offered
-  offered : (size : S → ℕ) (old new : Hub A) (before after : Slot R K S) (piece : List ℕ) (answer : Arrived) (is_full is_shut may_send : Bool) → slot_action size before ≡ Read → IsRead condition unread taken held before after piece is_full is_shut → new.store ≡ old.store → SameBehind old new
+  offered : (size : S → ℕ) (old new : Hub A) (before after : Slot R K S) (piece : List ℕ) (answer : Arrived) (is_full is_shut may_send : Bool) → slot_action size before ≡ Read → PieceIsRead condition unread taken held before after piece is_full is_shut → new.store ≡ old.store → SameBehind old new
       → OffersTo condition (reported taken held before.wire) (reported taken held after.wire) before.wire.failures after.wire.failures old new before.connection piece answer
       → after.state.phase ≡ phase_offered answer → (moment : ℕ) → ActsOnce condition unread taken held size old new before after moment is_full is_shut may_send
   offered size old new before after piece came.Open is_full is_shut may_send due read store behind o p moment = inr (inl (
@@ -406,7 +406,7 @@ module _ {A R K S : Type 0} (condition : A → Condition) (unread : R → Option
   -- some of a content were sent
   pub sent_on : (size : S → ℕ) (causes : Causes R K S) (old new : Hub A) (before after : Slot R K S) (k : Option (List ℕ)) (g : ℕ) (answer : SentOn) → SameClient before after → HubStays condition old new
       → slot_action size before ≡ Send → (before.state.is_awaited ≡ false → IsAtEnd (owed held before.wire)) → after.source ≡ before.source
-      → HubSends condition (reported taken held before.wire) k before.wire.failures g old new before.connection answer
+      → SendsOn condition (reported taken held before.wire) k before.wire.failures g old new before.connection answer
       → Keeps k (reported taken held after.wire) → after.wire.failures ≡ g
       → after.state ≡ record before.state { phase = phase_sent before.state.phase answer }
       → (moment : ℕ) (is_full is_shut : Bool) → TakesTurn condition unread taken held size causes old new before after moment is_full is_shut true

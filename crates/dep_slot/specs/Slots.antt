@@ -10,7 +10,7 @@ use Rattle.dep_hub.specs.Holding.{KeepsHolding, AnswersOver, IsNext, IsRefused, 
 use Rattle.dep_exchange.specs.Owing.{with_more}
 use Rattle.dep_hub.specs.Owed.{bytes_later}
 use Rattle.dep_hub.specs.Claims.{is_content}
-use Rattle.dep_hub.specs.RepresentsOwing.{BeginsUnawaited, KeepsBack, NextIsFree, NextIsPrepared, OthersStay, Owes, SendsOn as HubSends, behind_at, is_unsent}
+use Rattle.dep_hub.specs.RepresentsOwing.{BeginsUnawaited, KeepsBack, NextIsFree, NextIsPrepared, OthersStay, Owes, SendsOn, behind_at, is_unsent}
 use Rattle.dep_hub.specs.declared.rest.Behind.TheVariants.{Broken}
 use Rattle.dep_hub.specs.declared.sent_on.SentOn.{SentOn}
 use Rattle.dep_hub.specs.declared.sent_on.SentOn.TheVariants.{Part, All, Broken as BrokenOff}
@@ -83,8 +83,8 @@ pub record IsDue {R K S : Type 0} (held : S → Option (List ℕ)) (size : S →
   pub due : slot_action size slot ≡ next
 
 -- fewer bytes are owed, or the socket takes no more now, or it or the spool failed
-abbrev pub SendsOn : {R K S : Type 0} → (S → ℕ) → (before after : Slot R K S) → Type 0
-SendsOn size before after = (owed_count size after.wire < owed_count size before.wire)
+abbrev pub OwesLess : {R K S : Type 0} → (S → ℕ) → (before after : Slot R K S) → Type 0
+OwesLess size before after = (owed_count size after.wire < owed_count size before.wire)
     ⊎ ((after.state.is_writable ≡ false) ⊎ (after.state.phase ≡ Over))
 
 -- what is owed was sent, as far as the socket takes it, and not more or less
@@ -94,14 +94,14 @@ pub record Flushes {R K S : Type 0} (taken : K → Option (List ℕ)) (held : S 
   pub failures : after.wire.failures ≡ before.wire.failures
   pub same : after ≡ record before { wire = after.wire; state = after.state }
   pub state : StaysOrEnds before.state after.state
-  pub sends : 0 < owed_count size before.wire → SendsOn size before after
+  pub sends : 0 < owed_count size before.wire → OwesLess size before after
   pub caused : HasCauses causes ⊥ before after
 
 -- Its content was put off, as it wasn't its turn: what is owed was sent, as far as the socket takes it, and where
 -- nothing is, it isn't closed for that.
 pub record IsPutOff {R K S : Type 0} (size : S → ℕ) (before after : Slot R K S) : Type 0 where
   pub sends : before.state.is_writable ≡ true → 0 < owed_count size before.wire
-      → SendsOn size before after
+      → OwesLess size before after
   pub stirs : owed_count size before.wire ≡ 0 → after.state.has_moved ≡ true
   pub counts_not : owed_count size before.wire ≡ 0 → after.state.is_kept_back ≡ true
 
@@ -146,7 +146,7 @@ pub record HubStays {A : Type 0} (condition : A → Condition) (old new : Hub A)
 module _ {A R K S : Type 0} (condition : A → Condition) (unread : R → Option (List ℕ))
     (taken : K → Option (List ℕ)) (held : S → Option (List ℕ)) where
   -- nothing comes to the hub, and nothing is sent
-  pub record Rests (old new : Hub A) (before after : Slot R K S) : Type 0 where
+  pub record SlotRests (old new : Hub A) (before after : Slot R K S) : Type 0 where
     pub same : new ≡ old
     pub keeps : Keeps (reported taken held before.wire) (reported taken held after.wire)
     -- what is read and thrown away is of a connection that is read no more
@@ -159,7 +159,7 @@ module _ {A R K S : Type 0} (condition : A → Condition) (unread : R → Option
 
   -- a piece was read where nothing was owed and all that was read before was answered, the host isn't
   -- shut, and where too many bytes of unfinished requests are kept only as the first of one
-  pub record IsRead (before after : Slot R K S) (piece : List ℕ) (is_full is_shut : Bool) : Type 0 where
+  pub record PieceIsRead (before after : Slot R K S) (piece : List ℕ) (is_full is_shut : Bool) : Type 0 where
     pub unowed : IsAtEnd (owed held before.wire)
     pub waits : before.state.phase ≡ Open
     pub some : 0 < length piece
@@ -173,9 +173,9 @@ module _ {A R K S : Type 0} (condition : A → Condition) (unread : R → Option
         ≡ min (before.state.unfinished + length piece) (2 ^ 64 - 1)
 
   -- the hub holds the piece, and nothing is sent
-  pub record Offers (old new : Hub A) (before after : Slot R K S) (is_full is_shut : Bool) : Type 0 where
+  pub record OffersPiece (old new : Hub A) (before after : Slot R K S) (is_full is_shut : Bool) : Type 0 where
     pub piece : List ℕ
-    pub read : IsRead before after piece is_full is_shut
+    pub read : PieceIsRead before after piece is_full is_shut
     pub answers_next : after.state.phase ≡ Answering
     pub keeps : Keeps (reported taken held before.wire) (reported taken held after.wire)
     pub same_store : new.store ≡ old.store
@@ -188,7 +188,7 @@ module _ {A R K S : Type 0} (condition : A → Condition) (unread : R → Option
   pub record Refuses (old new : Hub A) (before after : Slot R K S) (moment : ℕ)
       (is_full is_shut : Bool) : Type 0 where
     pub piece : List ℕ
-    pub read : IsRead before after piece is_full is_shut
+    pub read : PieceIsRead before after piece is_full is_shut
     pub ends : is_ended after.state.phase ≡ true
     pub unsent : is_sending after.state.phase ≡ false
     pub behind : SameBehind old new
@@ -199,7 +199,7 @@ module _ {A R K S : Type 0} (condition : A → Condition) (unread : R → Option
 
   -- The next item was answered where nothing was owed, and only what was sent for it was taken; with what
   -- is still to be sent of a content behind it that is the reply.
-  pub record Answers (old new : Hub A) (before after : Slot R K S) (moment : ℕ) : Type 0 where
+  pub record AnswersAtSlot (old new : Hub A) (before after : Slot R K S) (moment : ℕ) : Type 0 where
     pub unowed : IsAtEnd (owed held before.wire)
     pub was_read : before.state.phase ≡ Answering
     pub same_source : after.source ≡ before.source
@@ -244,7 +244,7 @@ module _ {A R K S : Type 0} (condition : A → Condition) (unread : R → Option
     pub was_sending : is_sending before.state.phase ≡ true
     pub same_source : after.source ≡ before.source
     pub answer : SentOn
-    pub sends : HubSends condition (reported taken held before.wire) (reported taken held after.wire)
+    pub sends : SendsOn condition (reported taken held before.wire) (reported taken held after.wire)
         before.wire.failures after.wire.failures old new before.connection answer
     pub goes : after.state.phase ≡ phase_sent before.state.phase answer
     pub leaves : after.state.unfinished ≡ before.state.unfinished
@@ -256,7 +256,7 @@ module _ {A R K S : Type 0} (condition : A → Condition) (unread : R → Option
   abbrev pub MayRest : (S → ℕ) → Hub A → (before after : Slot R K S)
       → (is_full is_shut may_send : Bool) → NextAction → Type 0
   MayRest size hub before after is_full is_shut may_send to.Flush =
-      SendsOn size before after × StaysOrIsOver before.state.phase after.state.phase
+      OwesLess size before after × StaysOrIsOver before.state.phase after.state.phase
   MayRest size hub before after is_full is_shut may_send to.Answer = IsUnknown hub before.connection
   MayRest size hub before after is_full is_shut may_send to.Send = (may_send ≡ false)
       × IsPutOff size before after × StaysOrIsOver before.state.phase after.state.phase
@@ -277,11 +277,11 @@ module _ {A R K S : Type 0} (condition : A → Condition) (unread : R → Option
   abbrev pub ActsOnce : (S → ℕ) → (old new : Hub A) → (before after : Slot R K S) → (moment : ℕ)
       → (is_full is_shut may_send : Bool) → Type 0
   ActsOnce size old new before after moment is_full is_shut may_send =
-      (Rests old new before after
+      (SlotRests old new before after
       × MayRest size old before after is_full is_shut may_send (slot_action size before))
-      ⊎ ((Offers old new before after is_full is_shut × (slot_action size before ≡ to.Read))
+      ⊎ ((OffersPiece old new before after is_full is_shut × (slot_action size before ≡ to.Read))
       ⊎ ((Refuses old new before after moment is_full is_shut × (slot_action size before ≡ to.Read))
-      ⊎ ((Answers old new before after moment × (slot_action size before ≡ to.Answer))
+      ⊎ ((AnswersAtSlot old new before after moment × (slot_action size before ≡ to.Answer))
       ⊎ ((Delays old new before after × (slot_action size before ≡ to.Answer))
       ⊎ (Sends old new before after × (slot_action size before ≡ to.Send)
       × (may_send ≡ true))))))

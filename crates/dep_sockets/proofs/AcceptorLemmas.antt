@@ -16,14 +16,14 @@ use Rattle.dep_host.proofs.CloseLemmas.{steps_serve}
 use Rattle.dep_host.specs.Runs as runs
 use Rattle.dep_program.specs.declared.outcome.Outcome.{Outcome}
 use Rattle.dep_sockets.specs.Outcomes.{outcome_at}
-use Rattle.dep_host.specs.Coming.{Call}
+use Rattle.dep_host.specs.Coming.{PollCall}
 use Rattle.dep_slot.specs.Causes.{Causes}
 use Rattle.dep_host.specs.Meeting.{Met}
 use Rattle.dep_slot.specs.Notes.{Note}
 use Rattle.dep_host.specs.declared.host.Host.{Host}
 use Rattle.dep_slot.specs.declared.limits.Limits.{Limits}
 use Rattle.dep_exchange.specs.ArchiveCalls.{CallLog}
-use Rattle.dep_sockets.specs.Acceptors.{AcceptorState, ServesFrom, EndsHub, served, shut, stopped, broken_off, spent, not_begun, not_let_in, WentOn}
+use Rattle.dep_sockets.specs.Acceptors.{AcceptorState, ServesHost, EndsHub, served, shut, stopped, broken_off, spent, not_begun, not_let_in, WentOn}
 
 module _ {A R K S : Type 0} (condition : A → Condition) (unread : R → Option (List ℕ)) (taken : K → Option (List ℕ)) (held : S → Option (List ℕ)) where
   -- what a host makes: behind all records that its hub represented, it represents those of its actions
@@ -66,13 +66,13 @@ module _ {A R K S : Type 0} (condition : A → Condition) (unread : R → Option
 
   module _ {L : Type 0} (call_log : A → CallLog) (size : S → ℕ) (causes : Causes R K S) (notes : L → Option (List Note)) where
     -- nothing came meanwhile
-    pub met_since : {reported mid after : Option (List (Call R K S))} {p q : Host A R K S} {l m : L} {actions : List HostAction} {most : ℕ} {end : Ended} → mid ≡ reported
+    pub met_since : {reported mid after : Option (List (PollCall R K S))} {p q : Host A R K S} {l m : L} {actions : List HostAction} {most : ℕ} {end : Ended} → mid ≡ reported
         → Met condition call_log unread taken held size causes notes mid after p q l m actions most end → Met condition call_log unread taken held size causes notes reported after p q l m actions most end
     met_since {after = after} {p = p} {q = q} {l = l} {m = m} {actions = actions} {most = most} {end = end} same h =
-        subst (λ (t : Option (List (Call R K S))). Met condition call_log unread taken held size causes notes t after p q l m actions most end) same h
+        subst (λ (t : Option (List (PollCall R K S))). Met condition call_log unread taken held size causes notes t after p q l m actions most end) same h
 
     went_by : {before after : AcceptorState R K S} {l m : L} {limits : Limits} (old : Hub A) (store : A) {actions : List HostAction} {end : Ended}
-        → ServesFrom condition call_log unread taken held size causes notes before after l m limits old store actions end → MakesRuns → HoldsNothing → WentOn condition old store actions
+        → ServesHost condition call_log unread taken held size causes notes before after l m limits old store actions end → MakesRuns → HoldsNothing → WentOn condition old store actions
     went_by old store it makes none = went_from old store (position it.first) (position it.last) it.over it.left it.met.steps makes none
 
     -- what was done, whatever it came to
@@ -88,7 +88,7 @@ module _ {A R K S : Type 0} (condition : A → Condition) (unread : R → Option
 
     -- what serving comes to, by why it ended
     ends_by : {before after : AcceptorState R K S} {l m : L} {limits : Limits} (old : Hub A) (store : A) {actions : List HostAction} (why : Ended)
-        (it : ServesFrom condition call_log unread taken held size causes notes before after l m limits old store actions why)
+        (it : ServesHost condition call_log unread taken held size causes notes before after l m limits old store actions why)
         → (why ≡ ended.Events → IsTrue after.is_over) → (why ≡ ended.Shut cause.Store → ¬ IsTrue (condition it.last.hub.store).is_open)
         → (is_cut : Bool) → is_cut ≡ after.is_cut → EndsHub condition call_log unread taken held size causes notes before after l m limits old store actions (outcome_at why is_cut)
     ends_by old store ended.Events it over closed false same = served it (over refl) (sym same)
@@ -98,7 +98,7 @@ module _ {A R K S : Type 0} (condition : A → Condition) (unread : R → Option
     ends_by old store (ended.Shut cause.Store) it over closed is_cut same = shut it (λ is_open. closed refl (subst (λ (s : A). IsTrue (condition s).is_open) it.left is_open))
 
     pub ends_at : {before after : AcceptorState R K S} {l m : L} {limits : Limits} (old : Hub A) (store : A) {actions : List HostAction} (why : Ended)
-        (it : ServesFrom condition call_log unread taken held size causes notes before after l m limits old store actions why)
+        (it : ServesHost condition call_log unread taken held size causes notes before after l m limits old store actions why)
         → (why ≡ ended.Events → IsTrue after.is_over) → (why ≡ ended.Shut cause.Store → ¬ IsTrue (condition it.last.hub.store).is_open)
         → (is_cut : Bool) → is_cut ≡ after.is_cut → (outcome : Outcome) → outcome ≡ outcome_at why is_cut
         → EndsHub condition call_log unread taken held size causes notes before after l m limits old store actions outcome

@@ -7,7 +7,7 @@ use Rattle.dep_exchange.specs.ArchiveCalls.{CallLog}
 use Rattle.dep_hub.specs.Representing.{RepresentsAfter, IsClean, IsHonest}
 use Rattle.dep_hub.specs.declared.hub.Hub.{Hub}
 use Rattle.dep_slot.specs.Causes.{Causes}
-use Rattle.dep_host.specs.Coming.{Call}
+use Rattle.dep_host.specs.Coming.{PollCall}
 use Rattle.dep_host.specs.Hosting.{HostAction, IsEmpty, position}
 use Rattle.dep_host.specs.Meeting.{Met, most_events}
 use Rattle.dep_slot.specs.Notes.{Note}
@@ -23,7 +23,7 @@ use Rattle.dep_program.specs.declared.outcome.Outcome.TheVariants.{Done, StoreFa
 -- what an acceptor shows
 pub record AcceptorState (R K S : Type 0) : Type 0 where
   -- what came by it so far, each with the place that was offered for it, where it shows that
-  pub given : Option (List (Call R K S))
+  pub given : Option (List (PollCall R K S))
   -- it lets clients in
   pub is_open : Bool
   -- no more comes
@@ -32,7 +32,7 @@ pub record AcceptorState (R K S : Type 0) : Type 0 where
   pub is_cut : Bool
 
 -- an acceptor, by what it shows
-abbrev pub acceptor_state : {R K S E : Type 0} → (given : E → Option (List (Call R K S)))
+abbrev pub acceptor_state : {R K S E : Type 0} → (given : E → Option (List (PollCall R K S)))
     → (is_open is_over is_cut : E → Bool) → E → AcceptorState R K S
 acceptor_state given is_open is_over is_cut acceptor = record {
   given = given acceptor;
@@ -46,7 +46,7 @@ module _ {A R K S L : Type 0} (condition : A → Condition) (call_log : A → Ca
     (size : S → ℕ) (causes : Causes R K S) (notes : L → Option (List Note)) where
   -- A host without connections over this hub, within these limits, met all that came by the acceptor, up to
   -- the end, by these actions. The store was then let go.
-  pub record ServesFrom (before after : AcceptorState R K S) (l m : L) (limits : Limits) (old : Hub A)
+  pub record ServesHost (before after : AcceptorState R K S) (l m : L) (limits : Limits) (old : Hub A)
       (store : A) (actions : List HostAction) (end : Ended) : Type 0 where
     pub first : Host A R K S
     pub last : Host A R K S
@@ -68,26 +68,26 @@ module _ {A R K S L : Type 0} (condition : A → Condition) (call_log : A → Ca
       (store : A) : List HostAction → Outcome → Type 0 where
     -- no more came
     served : {actions : List HostAction}
-        → ServesFrom before after l m limits old store actions ended.Events
+        → ServesHost before after l m limits old store actions ended.Events
         → IsTrue after.is_over → after.is_cut ≡ false
         → EndsHub before after l m limits old store actions Done
     -- a fault had shut the store
     shut : {actions : List HostAction}
-        → ServesFrom before after l m limits old store actions (ended.Shut cause.Store)
+        → ServesHost before after l m limits old store actions (ended.Shut cause.Store)
         → ¬ IsTrue (condition store).is_open
         → EndsHub before after l m limits old store actions StoreFault
     -- it was told to stop, and nobody was connected any more, or an idle time had passed
     stopped : {actions : List HostAction}
-        → ServesFrom before after l m limits old store actions (ended.Shut cause.Stop)
+        → ServesHost before after l m limits old store actions (ended.Shut cause.Stop)
         → EndsHub before after l m limits old store actions Done
     -- the acceptor was broken off
     broken_off : {actions : List HostAction}
-        → ServesFrom before after l m limits old store actions ended.Events
+        → ServesHost before after l m limits old store actions ended.Events
         → after.is_cut ≡ true
         → EndsHub before after l m limits old store actions TransferFault
     -- more came than can be counted
     spent : {actions : List HostAction}
-        → ServesFrom before after l m limits old store actions ended.Spent
+        → ServesHost before after l m limits old store actions ended.Spent
         → EndsHub before after l m limits old store actions TransferFault
     -- there was no memory to begin, which nothing shows, and the acceptor was left alone
     not_begun : store ≡ old.store → after ≡ before

@@ -6,7 +6,7 @@ use Rattle.std.specs.Option.{option_map_or}
 use Rattle.std.specs.FinMap as finmap
 use Rattle.std.proofs.lemmas.Bool.{cases_lt}
 use Rattle.sqlite.specs.State as db
-use Rattle.dep_fixity.specs.Fixity.{Holds, digests_of}
+use Rattle.dep_fixity.specs.Fixity.{HashesMessage, digests_of}
 use Rattle.dep_fixity.specs.declared.hasher.Digests.{Digests}
 use Rattle.dep_types.specs.Maps.{Numbered}
 use Rattle.dep_types.specs.Sound.{IsSound}
@@ -22,8 +22,8 @@ use Rattle.dep_row_maps.specs.Laws.{HasSegmentsWithin}
 use Rattle.dep_row_maps.specs.Stored.{blocks_of}
 use Rattle.dep_row_maps.proofs.Whole.{segments_there}
 use Rattle.dep_staging.specs.Comparing.{stored_bytes}
-use Rattle.dep_staging.specs.Hashing.{AreDigestsOf}
-use Rattle.dep_staging.specs.HashedAhead.{segment_bytes, segment_bytes_from, first_blocks, WasReceived, HasGoneOn, HasHashed, IsFresh, IsRunning}
+use Rattle.dep_staging.specs.Hashing.{AreDigestsOfUpload}
+use Rattle.dep_staging.specs.HashedAhead.{segment_bytes, segment_bytes_from, first_blocks, WasReceived, HasGoneOn, HasHashed, HasHashedNothing, IsRunning}
 use Rattle.dep_staging.specs.declared.running.RunningHash.{RunningHash}
 use Rattle.dep_staging.proofs.StoredBlocks.{got_by, past_by, within_by}
 
@@ -61,7 +61,7 @@ has_come segments k i block is = go (finmap.get segments k) refl
 module _ (segments : Numbered (List ℕ)) (was now : RunningHash) (h : HasHashed segments was) where
   -- one block more
   pub block_more : (block : List ℕ) → slice_get (blocks_of (segment_bytes segments (was.segments + 1))) was.blocks ≡ Some block
-      → ((message : List ℕ) → Holds was.hasher message → Holds now.hasher (message ++ block)) → now.segments ≡ was.segments → now.blocks ≡ was.blocks + 1 → HasHashed segments now
+      → ((message : List ℕ) → HashesMessage was.hasher message → HashesMessage now.hasher (message ++ block)) → now.segments ≡ was.segments → now.blocks ≡ was.blocks + 1 → HasHashed segments now
   block_more block is grows same next =
       let bytes = segment_bytes segments (was.segments + 1) in
       let front = segment_bytes_from segments 1 was.segments in
@@ -69,7 +69,7 @@ module _ (segments : Numbered (List ℕ)) (was now : RunningHash) (h : HasHashed
       let whole : front ++ (first_blocks was.blocks bytes ++ block) ≡ segment_bytes_from segments 1 now.segments ++ first_blocks now.blocks (segment_bytes segments (now.segments + 1)) =
       ap (λ l. front ++ l) more ∙ ap (λ n. front ++ first_blocks n bytes) (sym next) ∙ ap (λ n. segment_bytes_from segments 1 n ++ first_blocks now.blocks (segment_bytes segments (n + 1))) (sym same) in
       record {
-        holds = subst (Holds now.hasher) (append_assoc front (first_blocks was.blocks bytes) block ∙ whole) (grows _ h.holds);
+        holds = subst (HashesMessage now.hasher) (append_assoc front (first_blocks was.blocks bytes) block ∙ whole) (grows _ h.holds);
         whole = λ k low high. h.whole k low (omega (arith, high, same));
         begun = λ some. subst (λ n. WasReceived segments (n + 1)) (sym same) (has_come segments (was.segments + 1) was.blocks block is);
       }
@@ -85,7 +85,7 @@ module _ (segments : Numbered (List ℕ)) (was now : RunningHash) (h : HasHashed
       let whole : front ++ first_blocks was.blocks bytes ≡ segment_bytes_from segments 1 now.segments ++ first_blocks now.blocks (segment_bytes segments (now.segments + 1)) =
       ap (λ l. front ++ l) all ∙ sym joined ∙ ap (segment_bytes_from segments 1) (sym next) ∙ sym (append-nil (segment_bytes_from segments 1 now.segments)) ∙ ap (λ n. segment_bytes_from segments 1 now.segments ++ first_blocks n (segment_bytes segments (now.segments + 1))) (sym over) in
       record {
-        holds = subst (λ x. Holds x (segment_bytes_from segments 1 now.segments ++ first_blocks now.blocks (segment_bytes segments (now.segments + 1)))) (sym kept) (subst (Holds was.hasher) whole h.holds);
+        holds = subst (λ x. HashesMessage x (segment_bytes_from segments 1 now.segments ++ first_blocks now.blocks (segment_bytes segments (now.segments + 1)))) (sym kept) (subst (HashesMessage was.hasher) whole h.holds);
         whole = λ k low high. reached k low (cases_lt was.segments k) (omega (arith, high, next));
         begun = λ begun. absurd (begun over);
       }
@@ -98,7 +98,7 @@ module _ (segments : Numbered (List ℕ)) (was now : RunningHash) (h : HasHashed
 pub still_hashed : (before after : Numbered (List ℕ)) (run : RunningHash) → ((k : ℕ) (bytes : List ℕ) → finmap.get before k ≡ Some bytes → finmap.get after k ≡ Some bytes)
     → HasHashed before run → HasHashed after run
 still_hashed before after run stay h = record {
-  holds = subst (Holds run.hasher) (λ i. front i ++ part run.blocks refl i) h.holds;
+  holds = subst (HashesMessage run.hasher) (λ i. front i ++ part run.blocks refl i) h.holds;
   whole = λ k low high. let it = h.whole k low high in (it.0, stay k it.0 it.1);
   begun = λ some. let it = h.begun some in (it.0, stay _ it.0 it.1);
 }
@@ -116,9 +116,9 @@ still_hashed before after run stay h = record {
 -- ---- what is running
 
 -- nothing of an upload is hashed at first
-pub nothing_hashed : (segments : Numbered (List ℕ)) (run : RunningHash) → IsFresh run → HasHashed segments run
+pub nothing_hashed : (segments : Numbered (List ℕ)) (run : RunningHash) → HasHashedNothing run → HasHashed segments run
 nothing_hashed segments run fresh = record {
-  holds = subst (Holds run.hasher) (sym (λ i. segment_bytes_from segments 1 (fresh.segments i) ++ first_blocks (fresh.blocks i) (segment_bytes segments (run.segments + 1)))) fresh.holds;
+  holds = subst (HashesMessage run.hasher) (sym (λ i. segment_bytes_from segments 1 (fresh.segments i) ++ first_blocks (fresh.blocks i) (segment_bytes segments (run.segments + 1)))) fresh.holds;
   whole = λ k low high. let none = fresh.segments in absurd (omega (arith, low, high, none));
   begun = λ some. absurd (some fresh.blocks);
 }
@@ -135,7 +135,7 @@ module _ (s : State) (sound : IsSound s) (was now : RunningHash) (running : IsRu
   hashed_now hashed it there = hashed it (ap (finmap.get s.uploads) (sym same) ∙ there)
 
   pub block_taken : (block : List ℕ) → slice_get (blocks_of (stored_bytes s was.upload (was.segments + 1))) was.blocks ≡ Some block
-      → ((message : List ℕ) → Holds was.hasher message → Holds now.hasher (message ++ block)) → now.segments ≡ was.segments → now.blocks ≡ was.blocks + 1 → IsRunning s now
+      → ((message : List ℕ) → HashesMessage was.hasher message → HashesMessage now.hasher (message ++ block)) → now.segments ≡ was.segments → now.blocks ≡ was.blocks + 1 → IsRunning s now
   block_taken block is grows kept next = go (finmap.get s.uploads was.upload) refl
     where
       go : (o : Option Upload) → finmap.get s.uploads was.upload ≡ o → IsRunning s now
@@ -171,9 +171,9 @@ no_first_blocks zero = refl
 no_first_blocks (suc n) = refl
 
 -- all its segments were hashed
-pub whole_hashed : (it : Upload) (run : RunningHash) → HasSegmentsWithin it → HasHashed it.segments run → run.segments ≡ it.count → Holds run.hasher (assembled it)
+pub whole_hashed : (it : Upload) (run : RunningHash) → HasSegmentsWithin it → HasHashed it.segments run → run.segments ≡ it.count → HashesMessage run.hasher (assembled it)
 whole_hashed it run within h all =
-    subst (Holds run.hasher) (ap (λ l. segment_bytes_from it.segments 1 run.segments ++ l) (behind (finmap.get it.segments (run.segments + 1)) refl) ∙ append-nil (segment_bytes_from it.segments 1 run.segments) ∙ ap (segment_bytes_from it.segments 1) all) h.holds
+    subst (HashesMessage run.hasher) (ap (λ l. segment_bytes_from it.segments 1 run.segments ++ l) (behind (finmap.get it.segments (run.segments + 1)) refl) ∙ append-nil (segment_bytes_from it.segments 1 run.segments) ∙ ap (segment_bytes_from it.segments 1) all) h.holds
   where
     behind : (o : Option (List ℕ)) → finmap.get it.segments (run.segments + 1) ≡ o → first_blocks run.blocks (unwrap_or o []) ≡ []
     behind None none = no_first_blocks run.blocks
@@ -193,7 +193,7 @@ lacks_none s it run running there all =
     all_received it 1 it.count (λ k low high. h.whole k low (omega (arith, high, all)))
 
 pub digests_reported : (s : State) (row : UploadRow) (run : RunningHash) (digests : Digests) → IsSound s → IsRunning s run → run.upload ≡ row.upload → run.segments ≡ row.count
-    → ((message : List ℕ) → Holds run.hasher message → digests ≡ digests_of message) → AreDigestsOf s row digests
+    → ((message : List ℕ) → HashesMessage run.hasher message → digests ≡ digests_of message) → AreDigestsOfUpload s row digests
 digests_reported s row run digests sound running its whole reported it there same =
     let at = ap (finmap.get s.uploads) its ∙ there in
     reported (assembled it) (whole_hashed it run (λ k bytes found. let w = (sound.uploads run.upload it at).segments k bytes found in (w.0, w.1)) (running_at s run it running at) (whole ∙ same))

@@ -16,7 +16,7 @@ use Rattle.dep_row_maps.specs.TablesAre.{TablesAre, IsCutBy}
 use Rattle.dep_files.proofs.Cuts.{before_end, block_at, blocks_hold}
 use Rattle.dep_staging.specs.declared.reading_on.ByteInPart.{ByteInPart}
 use Rattle.dep_staging.specs.FileBlocks.{part_of}
-use Rattle.dep_staging.specs.NextBytes.{AppendsBehind, GrowsBy, IsPrefix, IsNext, IsReadBy, IsAtByte}
+use Rattle.dep_staging.specs.NextBytes.{AppendsBehind, GrowsBy, AreFirstBytes, AreNextBytes, IsReadBy, IsAtByte}
 use Rattle.dep_staging.proofs.StoredBlocks.{got_by, within_by}
 
 -- ---- fronts of lists
@@ -60,7 +60,7 @@ front_of_part size before within start content e l =
     ∙ (drop-take within (size - within) (drop (before * size) content)
     ∙ ap (take (size - within)) (drop-drop within (before * size) content ∙ ap (λ n. drop n content) (sym e)))
 
-pub is_next : (all : List ℕ) (start : ℕ) (bytes : List ℕ) → IsPrefix (drop start all) bytes → IsNext all start bytes
+pub is_next : (all : List ℕ) (start : ℕ) (bytes : List ℕ) → AreFirstBytes (drop start all) bytes → AreNextBytes all start bytes
 is_next all start bytes front = record {
   on = sym (take-append-drop (length bytes) (drop start all)) ∙ ap (λ l. l ++ drop (length bytes) (drop start all)) (sym front.are) ∙ ap (λ l. bytes ++ l) (drop-drop (length bytes) start all);
   none = front.none;
@@ -149,7 +149,7 @@ nothing_grown all start old new g none =
     emptied [] ys e = refl
     emptied (x ∷ xs) ys e = absurd (cc e)
 
-pub some_front : (all bytes : List ℕ) → bytes ≡ take (length bytes) all → 0 < length bytes → length bytes ≤ 262144 → IsPrefix all bytes
+pub some_front : (all bytes : List ℕ) → bytes ≡ take (length bytes) all → 0 < length bytes → length bytes ≤ 262144 → AreFirstBytes all bytes
 some_front all bytes are some few = record { are = are; few = few; none = λ e. let len = ap (λ l. length l) e in absurd (omega (arith, len, some)) }
 
 pub nothing_first : (all bytes : List ℕ) → bytes ≡ [] → (bytes ≡ take (length bytes) all) × (0 < 0 → 0 < length bytes)
@@ -159,7 +159,7 @@ pub longer : (all : List ℕ) (start : ℕ) (old new : List ℕ) (some : Bool) �
 longer all start old new some is g = let more = g.more is in omega (arith, more)
 
 -- nothing was read any more
-pub ended_front : (all : List ℕ) (start : ℕ) (old new : List ℕ) (some : Bool) → some ≡ false → old ≡ take (length old) (drop start all) → length old ≤ 196608 → GrowsBy all start old new some → IsPrefix (drop start all) new
+pub ended_front : (all : List ℕ) (start : ℕ) (old new : List ℕ) (some : Bool) → some ≡ false → old ≡ take (length old) (drop start all) → length old ≤ 196608 → GrowsBy all start old new some → AreFirstBytes (drop start all) new
 ended_front all start old new some is are few g = record {
   are = front_grows all start old new some are g;
   few = let grown = g.few in omega (arith, few, grown);
@@ -199,7 +199,7 @@ module _ (parts : Numbered (List ℕ)) (content : List ℕ) (size : ℕ) (some :
   length_first = ap (λ l. length l) first_part ∙ length-take size content
 
   -- the next bytes of part 1 are the content's
-  pub first_next : (start : ℕ) (bytes : List ℕ) → IsPrefix (drop start first) bytes → 0 < length bytes → IsNext content start bytes
+  pub first_next : (start : ℕ) (bytes : List ℕ) → AreFirstBytes (drop start first) bytes → 0 < length bytes → AreNextBytes content start bytes
   first_next start bytes front has = elim (cases_lt start size) [
     | inl within ↦
         let plain : start ≡ 0 * size + start = omega arith in
@@ -216,7 +216,7 @@ module _ (parts : Numbered (List ℕ)) (content : List ℕ) (size : ℕ) (some :
   ]
 
   -- part 1 is empty
-  pub none_next : (start : ℕ) → 0 ≡ length first → IsNext content start []
+  pub none_next : (start : ℕ) → 0 ≡ length first → AreNextBytes content start []
   none_next start is =
       let len : length content ≡ 0 = omega (arith, is, length_first, some) in
       let nothing = none_long content len in

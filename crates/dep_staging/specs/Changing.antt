@@ -21,8 +21,8 @@ module _ (row : UploadRow) where
       → becomes (with_upload s row.upload it)
 
   -- where the row is that of an upload, which keeps its segments, the state with it is so
-  abbrev pub Rewrites : State → (becomes : State → Type 0) → Type 0
-  Rewrites s becomes = (was it : Upload) → map.get s.uploads row.upload ≡ Some was
+  abbrev pub RewritesUpload : State → (becomes : State → Type 0) → Type 0
+  RewritesUpload s becomes = (was it : Upload) → map.get s.uploads row.upload ≡ Some was
       → row ≡ upload_row row.upload it → it.segments ≡ was.segments → it.sha512 ≡ was.sha512
       → becomes (with_upload s row.upload it)
 

@@ -7,7 +7,7 @@ use Rattle.dep_types.specs.Maps.{Numbered}
 use Rattle.dep_types.specs.Sound.{IsSound}
 use Rattle.dep_types.specs.State.{State, Upload}
 use Rattle.dep_types.specs.Uploads.{is_complete}
-use Rattle.dep_fixity.specs.Fixity.{Holds}
+use Rattle.dep_fixity.specs.Fixity.{HashesMessage}
 use Rattle.dep_row_maps.specs.Stored.{blocks_of}
 use Rattle.dep_staging.specs.declared.running.RunningHash.{RunningHash}
 use Rattle.dep_staging.specs.declared.running.RunningHashes.{RunningHashes}
@@ -30,24 +30,24 @@ WasReceived segments k = (bytes : List ℕ) × (map.get segments k ≡ Some byte
 
 -- just its first segments were hashed, each of which was received, and the first blocks of the next one
 pub record HasHashed (segments : Numbered (List ℕ)) (run : RunningHash) : Type 0 where
-  pub holds : Holds run.hasher
+  pub holds : HashesMessage run.hasher
       (segment_bytes_from segments 1 run.segments ++ first_blocks run.blocks (segment_bytes segments (run.segments + 1)))
   pub whole : (k : ℕ) → 1 ≤ k → k ≤ run.segments → WasReceived segments k
   pub begun : run.blocks ≢ 0 → WasReceived segments (run.segments + 1)
 
 -- nothing was hashed
-pub record IsFresh (run : RunningHash) : Type 0 where
+pub record HasHashedNothing (run : RunningHash) : Type 0 where
   pub segments : run.segments ≡ 0
   pub blocks : run.blocks ≡ 0
-  pub holds : Holds run.hasher []
+  pub holds : HashesMessage run.hasher []
 
 -- the number of its upload was given, and what was hashed is what was received, where it is there
-pub record IsBegun (s : State) (run : RunningHash) : Type 0 where
+pub record IsHashOfReceived (s : State) (run : RunningHash) : Type 0 where
   pub given : run.upload < s.next.upload
   pub hashed : (it : Upload) → map.get s.uploads run.upload ≡ Some it → HasHashed it.segments run
 
 abbrev pub IsRunning : State → RunningHash → Type 0
-IsRunning s run = IsFresh run ⊎ IsBegun s run
+IsRunning s run = HasHashedNothing run ⊎ IsHashOfReceived s run
 
 -- so it is still of the same upload
 abbrev pub HasGoneOn : State → (before now : RunningHash) → Type 0

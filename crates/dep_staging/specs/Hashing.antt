@@ -8,6 +8,6 @@ use Rattle.dep_fixity.specs.Fixity.{digests_of}
 use Rattle.dep_fixity.specs.declared.hasher.Digests.{Digests}
 
 -- the digests of all the bytes of the upload of this row, if it is there
-abbrev pub AreDigestsOf : State → UploadRow → Digests → Type 0
-AreDigestsOf s row digests = (it : Upload) → map.get s.uploads row.upload ≡ Some it
+abbrev pub AreDigestsOfUpload : State → UploadRow → Digests → Type 0
+AreDigestsOfUpload s row digests = (it : Upload) → map.get s.uploads row.upload ≡ Some it
     → row.count ≡ it.count → digests ≡ digests_of (assembled it)

@@ -10,7 +10,7 @@ use Rattle.dep_staging.specs.declared.reading_on.ByteInPart.{ByteInPart}
 use Rattle.dep_staging.specs.FileBlocks.{part_of}
 
 -- the next bytes of a content behind so many: some of them if there are any, of four blocks at most
-pub record IsNext (content : List ℕ) (start : ℕ) (bytes : List ℕ) : Type 0 where
+pub record AreNextBytes (content : List ℕ) (start : ℕ) (bytes : List ℕ) : Type 0 where
   pub on : drop start content ≡ bytes ++ drop (start + length bytes) content
   pub none : bytes ≡ [] → drop start content ≡ []
   pub few : length bytes ≤ 4 * block_size
@@ -18,7 +18,7 @@ pub record IsNext (content : List ℕ) (start : ℕ) (bytes : List ℕ) : Type 0
 -- where there is such a file, these are the next bytes of its content
 abbrev pub IsNextIn : State → (file start : ℕ) → (bytes : List ℕ) → Type 0
 IsNextIn s file start bytes = (object : ℕ) (its : File) → file_at s object file ≡ Some its
-    → IsNext its.content start bytes
+    → AreNextBytes its.content start bytes
 
 -- the part and the place there of the byte behind so many: of part 1, or of all parts, by their size
 abbrev pub IsAtByte : (size : Option ℕ) → (behind : ℕ) → ByteInPart → Type 0
@@ -41,7 +41,7 @@ pub record GrowsBy (all : List ℕ) (start : ℕ) (old new : List ℕ) (some : B
   pub few : length new ≤ length old + block_size
 
 -- the first bytes of a list: some of them if there are any, of four blocks at most
-pub record IsPrefix (all bytes : List ℕ) : Type 0 where
+pub record AreFirstBytes (all bytes : List ℕ) : Type 0 where
   pub are : bytes ≡ take (length bytes) all
   pub none : bytes ≡ [] → all ≡ []
   pub few : length bytes ≤ 4 * block_size
@@ -60,7 +60,7 @@ module _ (t : Tables) (s : State) (file : ℕ) where
   -- the next bytes of it
   abbrev pub Fronts : (size : Option ℕ) → (start : ℕ) → (bytes : Vec ℕ) → Type 0
   Fronts size start bytes = (h : TablesAre t s) (all : List ℕ) → IsReadBy h size all
-      → IsPrefix (drop start all) bytes.items
+      → AreFirstBytes (drop start all) bytes.items
 
   -- how many bytes part 1 has
   abbrev pub Counts : (size : ℕ) → Type 0

@@ -3,7 +3,7 @@
 ghost use Rattle.std.specs.Prelude.{IfOk};
 ghost use Rattle.dep_types.specs.Sound.{IsSound};
 ghost use Rattle.dep_row_maps.specs.Clauses.{MayReadOver, ReadsOver};
-ghost use Rattle.dep_staging.specs.Hashing.{AreDigestsOf};
+ghost use Rattle.dep_staging.specs.Hashing.{AreDigestsOfUpload};
 ghost use Rattle.dep_staging.specs.HashedAhead.{AreRunning, HasGoneOn, Hashes, IsRunning};
 
 use crate::blocks::stored_block;
@@ -76,7 +76,7 @@ pub fn hash_upload<T: Statements>(
     row: &UploadRow,
 ) -> Result<Digests, StoreFault>
     ensures does { MayReadOver T.lenders T.state tx.old tx.new result
-        (λ s. Hashes s running.old running.new (IfOk result (AreDigestsOf s row.now))) }
+        (λ s. Hashes s running.old running.new (IfOk result (AreDigestsOfUpload s row.now))) }
 {
     let mut run = running.take(row.upload);
     let hashed = hash_blocks(tx, &mut run, u64::MAX);

@@ -2,8 +2,8 @@
 
 ghost use Rattle.std.specs.Prelude.{◌≡◌, ◌<◌, ◌+◌, ◌^◌, ◌++◌, ℕ, List, IfSome, IsTrue};
 ghost use Rattle.dep_types.specs.State.{State};
-ghost use Rattle.dep_fixity.specs.Fixity.{Holds};
-ghost use Rattle.dep_staging.specs.HashedAhead.{AreRunning, IsFresh, IsRunning, LacksNone};
+ghost use Rattle.dep_fixity.specs.Fixity.{HashesMessage};
+ghost use Rattle.dep_staging.specs.HashedAhead.{AreRunning, HasHashedNothing, IsRunning, LacksNone};
 
 use dep_fixity::Hasher;
 use lru::LruCache;
@@ -28,7 +28,7 @@ pub struct RunningHash {
 impl RunningHash {
     /// Nothing is hashed yet.
     fn new(upload: u64) -> RunningHash
-        ensures fresh { IsFresh result }
+        ensures fresh { HasHashedNothing result }
         ensures upload { result.upload ≡ upload }
     {
         RunningHash {
@@ -42,8 +42,8 @@ impl RunningHash {
     /// Hashes the next block.
     pub(crate) fn take(&mut self, block: &[u8])
         requires { self.old.blocks < 2 ^ 63 }
-        ensures holds { (message : List ℕ) → Holds self.old.hasher message
-            → Holds self.new.hasher (message ++ block.now) }
+        ensures holds { (message : List ℕ) → HashesMessage self.old.hasher message
+            → HashesMessage self.new.hasher (message ++ block.now) }
         ensures blocks { self.new.blocks ≡ self.old.blocks + 1 }
         ensures segments { self.new.segments ≡ self.old.segments }
         ensures upload { self.new.upload ≡ self.old.upload }

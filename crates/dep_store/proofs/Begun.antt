@@ -12,19 +12,19 @@ use Rattle.dep_answers.specs.declared.performed.StoredFile.{StoredFile}
 use Rattle.dep_tables.specs.Tables.{Tables, tables_of}
 use Rattle.dep_row_maps.specs.TablesAre.{TablesAre}
 use Rattle.dep_requests.specs.declared.caching.Cache.{Cache}
-use Rattle.dep_schema.specs.States.{Represents}
+use Rattle.dep_schema.specs.States.{StoreRepresents}
 use Rattle.dep_schema.specs.Transactions.{IsBackAt, IsRestored}
 use Rattle.dep_schema.proofs.Transacting.{IsSettled, stood_before}
 use Rattle.dep_exchange.specs.Owing.{HasBehind}
 use Rattle.dep_store.specs.Caching.{IsCached, IsOfOpen, IsKnownFile}
-use Rattle.dep_store.specs.SendingOn.{BeginsIfOpen, FindsSize, SendsOn}
+use Rattle.dep_store.specs.SendingOn.{BeginsIfOpen, FindsSize, SendsNextBlocks}
 use Rattle.dep_store.proofs.Contents.{content_same}
 use Rattle.dep_store.proofs.SentOn.{keeps_open, none_taken, nothing_sent}
 use Rattle.dep_store.proofs.ShutLemmas.{fails_staying, fails_still, was_open_then}
 use Rattle.dep_store.proofs.Tries.{busy_fails, busy_tries, failed_keeping}
 
 -- all of it is behind its front
-all_behind : (d : db.State) (s : State) (it : StoredFile) (file : File) → Represents d s → file_at s it.object it.file ≡ Some file → HasBehind s it 0 (content_same (tables_of d) it.file).0
+all_behind : (d : db.State) (s : State) (it : StoredFile) (file : File) → StoreRepresents d s → file_at s it.object it.file ≡ Some file → HasBehind s it 0 (content_same (tables_of d) it.file).0
 all_behind d s it file represents held = record {
   file = file;
   held = held;
@@ -55,7 +55,7 @@ module _ (old new : db.State) (it : StoredFile) (settled : IsTrue old.is_open �
 
   -- the file was not found, or its next bytes could not be read
   pub sends_not : (taken : Option (List ℕ)) (failures start : ℕ) (r : Result (Option ℕ) StreamFault) → IsErr r → CountsFailures failures failures r → IsRestored old new
-      → SendsOn old new taken taken failures failures it start r
+      → SendsNextBlocks old new taken taken failures failures it start r
   sends_not taken failures start r failed count restored = record {
     streams = ([], Appends-nil taken, λ clean s represents. nothing_sent s it start r failed);
     few = none_taken taken;
@@ -68,7 +68,7 @@ module _ (old new : db.State) (it : StoredFile) (settled : IsTrue old.is_open �
 pub busy_begins : {A E : Type 0} (d : db.State) (it : StoredFile) → IsTrue d.in_transaction → (r : Result A E) → IsErr r → BeginsIfOpen d d it r
 busy_begins d it busy r failed = record { begins = ([], λ clean. IfOk-from_err r _ failed); does = busy_tries d busy r failed; shut = busy_fails d busy r failed }
 
-pub busy_sends_on : (d : db.State) → IsTrue d.in_transaction → (taken : Option (List ℕ)) (failures : ℕ) (it : StoredFile) (start : ℕ) → SendsOn d d taken taken failures failures it start (Err StoreFails)
+pub busy_sends_on : (d : db.State) → IsTrue d.in_transaction → (taken : Option (List ℕ)) (failures : ℕ) (it : StoredFile) (start : ℕ) → SendsNextBlocks d d taken taken failures failures it start (Err StoreFails)
 busy_sends_on d busy taken failures it start = record {
   streams = ([], Appends-nil taken, λ clean s at. nothing_sent s it start (Err StoreFails) refl);
   few = none_taken taken;

@@ -14,7 +14,7 @@ use Rattle.dep_schema.specs.OpenTables.{StaysFile}
 use Rattle.dep_answers.specs.Performing.{IsReady}
 use Rattle.dep_answers.specs.Steps.{operation_step}
 use Rattle.dep_answers.specs.declared.performed.Performed.{Performed}
-use Rattle.dep_schema.specs.States.{Represents, TablesRepresent}
+use Rattle.dep_schema.specs.States.{StoreRepresents, TablesRepresent}
 use Rattle.dep_schema.specs.Transactions.{OverStates}
 use Rattle.dep_store.proofs.Carrying.{shown_whole}
 use Rattle.dep_requests.specs.declared.caching.Cache.{Cache}
@@ -23,7 +23,7 @@ use Rattle.dep_requests.proofs.CacheLemmas.{none_is, cached_tick}
 use Rattle.dep_store.specs.Caching.{IsCached, IsReadOf, MayCache, IsOfOpen, IsKnownFile}
 
 -- the clock that is cached is that of the tick
-pub clock_made : (d : db.State) (t : Tables) (config : Config) (moment : ℕ) (m : Cache) (shown : ℕ) → StaysFile d t → ((s : State) → Represents d s → IsReadOf config moment s m)
+pub clock_made : (d : db.State) (t : Tables) (config : Config) (moment : ℕ) (m : Cache) (shown : ℕ) → StaysFile d t → ((s : State) → StoreRepresents d s → IsReadOf config moment s m)
     → shown ≡ min m.clock greatest_moment
     → OverStates (λ s n. n ≡ (tick config s moment).clock) (λ s. tick config s moment) t shown t
 clock_made d t config moment m shown represents is_cache is s means =
@@ -39,7 +39,7 @@ pub forgotten : (d : db.State) → IsCached d None × IsOfOpen d None × IsKnown
 forgotten d = (λ m is. absurd (none_is is), λ m is. absurd (none_is is), λ it is. absurd (none_is is))
 
 pub service_made : {E : Type 0} (d : db.State) (t : Tables) (config : Config) (op : Operation) (m : Cache) (result : Result Performed E) → StaysFile d t
-    → ((s : State) → Represents d s → IsCacheOf m s)
+    → ((s : State) → StoreRepresents d s → IsCacheOf m s)
     → (AreFit op.fields → (s : State) → IsSound s → IsCacheOf m s → IfOk result (λ p. IsReady (operation_step config s op) p × ((operation_step config s op).state ≡ s)))
     → IfOk result (λ p. AreFit op.fields → OverStates (λ s p. IsReady (operation_step config s op) p) (λ s. (operation_step config s op).state) t p t)
 service_made d t config op m (Ok p) represents is_cache reported = λ fit s means.

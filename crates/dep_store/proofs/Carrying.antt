@@ -20,10 +20,10 @@ use Rattle.dep_files.specs.Reading.{StaysOrRollsBack}
 use Rattle.dep_tables.specs.Clauses.{ReadsWithin}
 use Rattle.dep_schema.specs.OpenTables.{StaysFile}
 use Rattle.dep_schema.proofs.Transacting.{IsMade}
-use Rattle.dep_schema.specs.States.{Represents}
+use Rattle.dep_schema.specs.States.{StoreRepresents}
 use Rattle.dep_schema.specs.Transactions.{OnlyReports, OverStates}
 use Rattle.dep_store.specs.ReadTransactions.{ReportsFrom}
-use Rattle.dep_store.specs.Tasks.{Makes}
+use Rattle.dep_store.specs.Tasks.{MakesTables}
 use Rattle.dep_store.proofs.Migrated.{represents_same, tables_kept}
 
 -- no upload of a sound state has the number 0
@@ -55,7 +55,7 @@ ticks old new config moment clock shown is reported ours clean inside are_ours =
 -- what reads alone, inside a transaction
 pub reports : {T L A E : Type 0} (lenders : T → L) (state : T → db.State) (old new : T) (r : Result A E) (reported : Tables → A → Type 0)
     → (HasCleanDisk (state new) → IsTrue (state old).in_transaction → IsOurs (state old) → IfOk r (reported (tables_of (state old))))
-    → ReadsWithin lenders state old new r → Makes lenders state old new r (OnlyReports reported)
+    → ReadsWithin lenders state old new r → MakesTables lenders state old new r (OnlyReports reported)
 reports {T} {L} {A} {E} lenders state old new r reported asks keeps = record {
   made = λ clean inside ours. each r ours (asks clean inside ours) (keeps.same clean ours);
   stays = keeps.stays;
@@ -78,7 +78,7 @@ ok_leaves (Err e) p f = tt
 
 -- what it told of the state that the database represents
 pub reported_then : {S : Type 0} (g : Ghosts S) (old begun : Held S) (inside last : Transaction S) (reported : State → Type 0) → begun ≡ record old { in_transaction = true } → inside ≡ last
-    → ReportsFrom (state g begun) (state g inside.conn.now) reported → HasCleanDisk (state g last.conn.now) → (s : State) → Represents (state g old) s → reported s
+    → ReportsFrom (state g begun) (state g inside.conn.now) reported → HasCleanDisk (state g last.conn.now) → (s : State) → StoreRepresents (state g old) s → reported s
 reported_then g old begun inside last reported is left reads clean s was =
     let inside_clean = subst (λ (tx : Transaction _). HasCleanDisk (state g tx.conn.now)) (sym left) clean in
     subst (λ (h : Held _). ReportsFrom (state g h) (state g inside.conn.now) reported) is reads
@@ -101,14 +101,14 @@ pub ok_reported : {A E : Type 0} (old new : db.State) (r : Result A E) (reported
 ok_reported old new (Ok answer) reported t represents still its = (subst (λ (now : Tables). reported now answer) represents.rows its, represents_same old new t represents still)
 ok_reported old new (Err e) reported t represents still its = tt
 
-pub represents_kept : (old new : db.State) (s : State) → Represents old s → IsTrue new.is_open → StaysOrRollsBack old new → Represents new s
+pub represents_kept : (old new : db.State) (s : State) → StoreRepresents old s → IsTrue new.is_open → StaysOrRollsBack old new → StoreRepresents new s
 represents_kept old new s represents is_open kept =
     record { tables = represents.tables; represents = tables_kept old new represents.tables represents.represents is_open kept; means = represents.means }
 
-pub err_kept : {A E : Type 0} (old new : db.State) (r : Result A E) (s : State) → Represents old s → IsTrue new.is_open → StaysOrRollsBack old new → OnErr r (Represents new s)
+pub err_kept : {A E : Type 0} (old new : db.State) (r : Result A E) (s : State) → StoreRepresents old s → IsTrue new.is_open → StaysOrRollsBack old new → OnErr r (StoreRepresents new s)
 err_kept old new (Ok x) s represents is_open kept = tt
 err_kept old new (Err e) s represents is_open kept = represents_kept old new s represents is_open kept
 
-pub ok_unchanged : {A E : Type 0} (old new : db.State) (r : Result A E) (s : State) → Represents old s → OnOk r (IsUnchanged old new) → OnOk r (Represents new s)
+pub ok_unchanged : {A E : Type 0} (old new : db.State) (r : Result A E) (s : State) → StoreRepresents old s → OnOk r (IsUnchanged old new) → OnOk r (StoreRepresents new s)
 ok_unchanged old new (Ok x) s represents still = represents_kept old new s represents still.0.is_open (λ _. inl still)
 ok_unchanged old new (Err e) s represents still = tt

@@ -14,7 +14,7 @@ use Rattle.dep_schema.specs.Transactions.{Transacts, IsRestored}
 use Rattle.dep_schema.proofs.Transacting.{IsSettled, after_back}
 use Rattle.dep_exchange.specs.Archives.{Always}
 use Rattle.dep_store.specs.Copying.{CopiesLog, RewritesClock}
-use Rattle.dep_store.specs.Shut.{FailsIfShut}
+use Rattle.dep_store.specs.Shut.{StoreFailsIfShut}
 use Rattle.dep_store.proofs.ShutLemmas.{was_open_then}
 use Rattle.dep_store.proofs.Tries.{tries_over}
 
@@ -28,7 +28,7 @@ represents_again t after s (row, read, is) means =
     }
 
 -- what the transaction comes to
-pub copies : {A E : Type 0} (old new : db.State) (r : Result A E) → Transacts old new r (λ before done after. RewritesClock before after) → FailsIfShut old new r → CopiesLog old new r
+pub copies : {A E : Type 0} (old new : db.State) (r : Result A E) → Transacts old new r (λ before done after. RewritesClock before after) → StoreFailsIfShut old new r → CopiesLog old new r
 copies old new r it shut = record {
   does = tries_over old new r (λ before done after. RewritesClock before after) Always (λ s answer. Unit {0}) (λ s. s)
       (λ s always t answer after wrote means. (tt, represents_again t after s wrote means)) it;

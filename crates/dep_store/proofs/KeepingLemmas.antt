@@ -17,13 +17,13 @@ use Rattle.dep_staging.specs.declared.running.RunningHash.{RunningHash}
 use Rattle.dep_staging.specs.declared.running.RunningHashes.{RunningHashes}
 use Rattle.dep_staging.proofs.AheadLemmas.{still_hashed}
 use Rattle.dep_schema.specs.Performing.{KeepsRunning}
-use Rattle.dep_schema.specs.States.{Represents}
-use Rattle.dep_types.specs.Conditions.{Condition, Represents as RepresentsAs, HasCleanDisk}
+use Rattle.dep_schema.specs.States.{StoreRepresents}
+use Rattle.dep_types.specs.Conditions.{Condition, Represents, HasCleanDisk}
 use Rattle.dep_exchange.specs.Archives.{TriesTo, Always, KeepsState, KeepsAll, KeepsEachState, FailsIfShut}
 use Rattle.dep_exchange.proofs.Leaving.{Settles, leaves_before, leaves_once}
 use Rattle.dep_store.specs.Archive as store
 use Rattle.dep_store.specs.Shut as db_shut
-use Rattle.dep_store.specs.HashingStores.{Keeps, shown_with_hashes, reported_by}
+use Rattle.dep_store.specs.HashingStores.{KeepsHashed, shown_with_hashes, reported_by}
 
 -- what was hashed of one upload
 still_running : (s t : State) (run : RunningHash) → KeepsSegments s t → IsRunning s run → IsRunning t run
@@ -46,9 +46,9 @@ module _ (d d' : db.State) (runs runs' : RunningHashes) where
       → ((s : State) → given s → AreRunning s runs → holds s) → KeepsRunning d d' runs runs' → ((s : State) → AreRunning s runs' → AreRunning (next s) runs')
       → TriesTo (store.shown_by d) (store.shown_by d') holds reported next r → TriesTo (shown_with_hashes d runs) (shown_with_hashes d' runs') given reported next r
   tries_hashed {A} {E} holds given reported next r knows stay go it = record {
-    ok = λ clean s keeps its. IfOk-weaker r (λ answer. reported s answer × Represents d' (next s)) (λ answer. reported s answer × Keeps d' runs' (next s))
+    ok = λ clean s keeps its. IfOk-weaker r (λ answer. reported s answer × StoreRepresents d' (next s)) (λ answer. reported s answer × KeepsHashed d' runs' (next s))
         (λ answer h. (h.0, record { represents = h.1; hashed = go s (stay h.1.represents.is_open s keeps.represents keeps.hashed) })) (it.ok clean s keeps.represents (knows s its keeps.hashed));
-    err = λ is_open s keeps. on_err_weaker r (λ (represents : Represents d' s). record { represents = represents; hashed = stay is_open s keeps.represents keeps.hashed }) (it.err is_open s keeps.represents);
+    err = λ is_open s keeps. on_err_weaker r (λ (represents : StoreRepresents d' s). record { represents = represents; hashed = stay is_open s keeps.represents keeps.hashed }) (it.err is_open s keeps.represents);
     honest = it.honest;
     was_open = it.was_open;
     stop = λ clean s keeps its. it.stop clean s keeps.represents (knows s its keeps.hashed);
@@ -64,7 +64,7 @@ module _ (d d' : db.State) (runs runs' : RunningHashes) where
     left = it.left;
   }
 
-  pub shut_hashed : {A E : Type 0} (r : Result A E) → db_shut.FailsIfShut d d' r → FailsIfShut (shown_with_hashes d runs) (shown_with_hashes d' runs') r
+  pub shut_hashed : {A E : Type 0} (r : Result A E) → db_shut.StoreFailsIfShut d d' r → FailsIfShut (shown_with_hashes d runs) (shown_with_hashes d' runs') r
   shut_hashed r it = record { opened = it.opened; left = λ clean shut image h. (image, it.left clean shut image h, λ s. (λ x. x, λ x. x)) }
 
 -- one that keeps the state, and hashes nothing
@@ -116,7 +116,7 @@ keeps_either {A} {E} old new r clean it shut = record {
   left = shut.left;
 }
   where
-    each : (r : Result A E) (s : State) → IfOk r (λ answer. Unit {0} × RepresentsAs new s) → OnErr r (RepresentsAs new s) → RepresentsAs new s
+    each : (r : Result A E) (s : State) → IfOk r (λ answer. Unit {0} × Represents new s) → OnErr r (Represents new s) → Represents new s
     each (Ok answer) s h none = h.1
     each (Err e) s none h = h
 

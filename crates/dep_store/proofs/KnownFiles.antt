@@ -23,13 +23,13 @@ use Rattle.dep_answers.specs.declared.performed.StoredFile.{StoredFile}
 use Rattle.dep_requests.specs.declared.performing.Done.{Done}
 use Rattle.dep_staging.specs.declared.running.RunningHashes.{RunningHashes}
 use Rattle.dep_schema.specs.Performing.{KeepsRunning, StepsAlone, StepsOver, ReportsChanges, IsBackUnchanged}
-use Rattle.dep_schema.specs.States.{Represents}
+use Rattle.dep_schema.specs.States.{StoreRepresents}
 use Rattle.dep_schema.specs.Transactions.{FindsOpen, Transacts}
 use Rattle.dep_schema.proofs.Transacting.{IsSettled, after_back, given_back_then}
 use Rattle.dep_files.proofs.Streams.{IsSized}
 use Rattle.dep_requests.specs.Caching.{has_value, is_plain_read}
 use Rattle.dep_store.specs.Caching.{IsOfSize}
-use Rattle.dep_store.specs.Shut.{FailsIfShut}
+use Rattle.dep_store.specs.Shut.{StoreFailsIfShut}
 use Rattle.dep_store.proofs.ShutLemmas.{state_back, was_open_then}
 
 -- ---- a request that only reads, and tells of no content
@@ -78,7 +78,7 @@ ready_sized s stepped p same ready = go p.stored ready.stored ready.not_empty re
 
 -- the file whose content the reply to such a request has is there
 abbrev pub ShowsFile : (old new : db.State) → Result Done StoreFault → Operation → Type 0
-ShowsFile old new result op = IsTrue (is_plain_read op) → HasCleanDisk new → (s : State) → Represents old s
+ShowsFile old new result op = IsTrue (is_plain_read op) → HasCleanDisk new → (s : State) → StoreRepresents old s
     → IfOk result (λ done. IfSome done.performed.stored (IsOfSize s))
 
 pub shows_file : (old new : db.State) (config : Config) (op : Operation) (result : Result Done StoreFault)
@@ -94,7 +94,7 @@ shows_file old new config op result it plain clean s represents =
 -- on a store that was shut it fails, else it is one transaction, given back where nothing was changed, and shows a file that is there
 pub record PerformsIfOpen (old new : db.State) (result : Result Done StoreFault) (config : Config)
     (op : Operation) (running later : RunningHashes) : Type 0 where
-  pub shut : FailsIfShut old new result
+  pub shut : StoreFailsIfShut old new result
   pub transacts : Transacts old new result (StepsOver config op running)
   pub changes : ReportsChanges old new result config op running
   pub hashed : KeepsRunning old new running later
@@ -109,7 +109,7 @@ pub performs : (old mid new : db.State) (config : Config) (op : Operation) (runn
 performs old mid new config op running later result settled shut found keeps shows does changes unchanged =
     let back = found.restored.back in
     let opened = λ (clean : HasCleanDisk new). found.opened (does.honest clean) in
-    let represents = λ (clean : HasCleanDisk new) (s : State) (was : Represents old s). state_back old mid s back (opened clean) was in
+    let represents = λ (clean : HasCleanDisk new) (s : State) (was : StoreRepresents old s). state_back old mid s back (opened clean) was in
     record {
       shut = was_open_then old new result (λ clean. (back (opened clean)).0);
       transacts = after_back old mid new result _ settled shut back found.restored.survives found.opened does;

@@ -17,7 +17,7 @@ use Rattle.dep_schema.proofs.Transacting.{IsSettled, left_still}
 use Rattle.dep_files.specs.Reading.{StaysOrRollsBack}
 use Rattle.dep_files.specs.Sha512s.{AreValuesOf}
 use Rattle.dep_files.proofs.Upgraded.{stand_upgraded}
-use Rattle.dep_schema.specs.States.{TablesRepresent, OlderTablesRepresent, Represents, OlderRepresents, IsLeftAs}
+use Rattle.dep_schema.specs.States.{TablesRepresent, OlderTablesRepresent, StoreRepresents, OlderRepresents, IsLeftAs}
 use Rattle.dep_store.specs.Migrating.{IsUpgraded, Migrates}
 
 pub known_older : (d : db.State) (t : Tables) → IsOpenWithOlder d t → IsKnown d
@@ -92,10 +92,10 @@ upgraded_means t after s up means is =
     subst (λ (x : Tables). TablesRepresent x s) (sym is.is) (record { are = stand_upgraded t s means.are means.sound up is.values is.are; sound = means.sound })
 
 module _ {A E : Type 0} (old new : db.State) (result : Result A E) (it : Migrates old new result) where
-  pub ok_states : HasCleanDisk new → (s : State) → OlderRepresents old s → OnOk result (Represents new s)
+  pub ok_states : HasCleanDisk new → (s : State) → OlderRepresents old s → OnOk result (StoreRepresents new s)
   ok_states clean s stood = each result (it.ok clean stood.tables stood.represents)
     where
-      each : (r : Result A E) → OnOk r ((after : Tables) × StaysFile new after × IsUpgraded stood.tables after) → OnOk r (Represents new s)
+      each : (r : Result A E) → OnOk r ((after : Tables) × StaysFile new after × IsUpgraded stood.tables after) → OnOk r (StoreRepresents new s)
       each (Ok x) (after, stand, is) = record { tables = after; represents = stand; means = upgraded_means stood.tables after s (files_rise old stood.tables stood.represents) stood.means is }
       each (Err e) h = tt
 

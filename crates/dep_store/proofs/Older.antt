@@ -12,7 +12,7 @@ use Rattle.dep_types.specs.declared.store_fault.StoreFault.{StoreFault}
 use Rattle.dep_types.specs.declared.store_fault.StoreFault.TheVariants as fault
 use Rattle.dep_schema.specs.declared.opening.OpenFault.TheVariants.{UnknownVersion}
 use Rattle.dep_schema.specs.OpenFaults.{begun, open_fault_for, ShowsOrMakes, ShowsVersion, ReportsVersion}
-use Rattle.dep_schema.specs.OpenTables.{IsBack, IsStill}
+use Rattle.dep_schema.specs.OpenTables.{IsBack, SeesTheSame}
 use Rattle.dep_migrations.proofs.Upgraded.{new_not_free}
 use Rattle.dep_schema.proofs.Version.{not_older, shows_again}
 use Rattle.dep_store.specs.Causes.{HadFreeNames}
@@ -26,11 +26,11 @@ pub one_left : (found : ℕ) → IsKnownVersion found → (found ≡ our_version
 one_left found (inl two) other = absurd (other two)
 one_left found (inr one) other = one
 
-pub known_since : (old new : db.State) → IsStill old new → IsKnown old → IsKnown new
+pub known_since : (old new : db.State) → SeesTheSame old new → IsKnown old → IsKnown new
 known_since old new still (its, known, ours) = (its, known, subst (HasTablesOf its) (sym still.now) ours)
 
 -- an open that failed behind it fell back to what was there
-pub back_since : (old mid new : db.State) → old.now ≡ old.committed → IsStill old mid → IsBack mid new → IsBack old new
+pub back_since : (old mid new : db.State) → old.now ≡ old.committed → SeesTheSame old mid → IsBack mid new → IsBack old new
 back_since old mid new between still back = (back.0 ∙ still.committed ∙ between, back.1 ∙ still.committed ∙ between)
 
 module _ {S : Type 0} (g : Ghosts S) where
@@ -40,7 +40,7 @@ module _ {S : Type 0} (g : Ghosts S) where
       shows_again (state g (begun old)) (state g old) (state g asked) refl (λ is_open. is_open) older_version (subst (ShowsVersion (state g (begun old)) (state g asked)) one shown)
   reports_older old found one (asked, inr (none, two)) = absurd (not_older (sym two ∙ one))
 
-  pub had_free : (old mid : Held S) → IsStill (state g old) (state g mid) → HadFreeNames g mid → HadFreeNames g old
+  pub had_free : (old mid : Held S) → SeesTheSame (state g old) (state g mid) → HadFreeNames g mid → HadFreeNames g old
   had_free old mid still (hashed, same, free) = (hashed, (λ known. same (known_since (state g old) (state g mid) still known) ∙ still.now), free)
 
   -- tables of version 2 were not upgraded

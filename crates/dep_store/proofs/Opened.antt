@@ -17,7 +17,7 @@ use Rattle.dep_schema.specs.OpenTables.{HoldsOf, HoldsNone, IsOpenWithOf, Commit
 use Rattle.dep_schema.proofs.Again.{sees_trees}
 use Rattle.dep_schema.proofs.Transacting.{IsSettled}
 use Rattle.dep_schema.proofs.Version.{not_older}
-use Rattle.dep_schema.specs.States.{TablesRepresent, Represents, OlderRepresents, IsLeftAs}
+use Rattle.dep_schema.specs.States.{TablesRepresent, StoreRepresents, OlderRepresents, IsLeftAs}
 use Rattle.dep_store.specs.Migrating.{Migrates, Stood, OpenLeaves}
 use Rattle.dep_store.proofs.Migrated.{stop_states}
 
@@ -27,7 +27,7 @@ version_is t v w one two = let same = sym one ∙ two in cc
 
 -- by the version that was found, the tables of one version or of the other
 pub opened_stood : (old new : db.State) (found : ℕ) (s : State) → ((its : Schema) → IsKnownSchema its → (t : Tables) → HoldsOf its old.now.trees t → HasVersion found t × IsOpenWithOf its new t)
-    → IsLeftAs old.now.trees s → ((found ≡ our_version) × Represents new s) ⊎ ((found ≡ older_version) × OlderRepresents new s)
+    → IsLeftAs old.now.trees s → ((found ≡ our_version) × StoreRepresents new s) ⊎ ((found ≡ older_version) × OlderRepresents new s)
 opened_stood old new found s finds (inl (t, holds, means)) =
     let it = finds our_schema (inl refl) t holds in inl (version_is t found our_version it.0 means.are.common.format, record { tables = t; represents = it.1; means = means })
 opened_stood old new found s finds (inr (t, holds, means)) =

@@ -13,7 +13,7 @@ use Rattle.dep_types.specs.declared.stream_fault.StreamFault.{StreamFault}
 use Rattle.dep_types.specs.declared.stream_fault.StreamFault.TheVariants.{Writer, Store, Memory, NoSuchFile}
 use Rattle.dep_answers.specs.declared.performed.StoredFile.{StoredFile}
 use Rattle.dep_staging.specs.NextBytes.{IsNextIn}
-use Rattle.dep_schema.specs.States.{Represents}
+use Rattle.dep_schema.specs.States.{StoreRepresents}
 use Rattle.dep_schema.specs.Transactions.{IsRestored}
 use Rattle.dep_schema.proofs.Transacting.{IsSettled, back_then, leaves_still, none_then}
 use Rattle.dep_exchange.specs.Archives.{KeepsState}
@@ -73,7 +73,7 @@ module _ (s : State) (it : StoredFile) (start size : ℕ) (bytes : List ℕ) (co
   )
 
 module _ (old new : db.State) (taken takes : Option (List ℕ)) (it : StoredFile) (start size : ℕ) (bytes : List ℕ)
-    (reports : HasCleanDisk new → (s : State) → Represents old s → Comes s it start size bytes) where
+    (reports : HasCleanDisk new → (s : State) → StoreRepresents old s → Comes s it start size bytes) where
   pub streams_on : (r : Result (Option ℕ) StreamFault) → GivesNext taken takes bytes start size r → StreamsOn (shown_by old) (shown_by new) taken takes it start r
   streams_on (Ok None) (few, all, appends) = (bytes, appends, λ clean s represents. last_sent s it start size bytes (reports clean s represents) all)
   streams_on (Ok (Some place)) (few, some, is, appends) = (bytes, appends, λ clean s represents. more_sent s it start size bytes (reports clean s represents) place some is)

@@ -10,10 +10,10 @@ use Rattle.sqlite_trees.specs.declared.error.StoreError.{StoreError}
 use Rattle.sqlite_trees.specs.declared.error.StoreError.TheVariants.{OutOfMemory, Io, Corrupt, Full, Broken, Unstorable}
 use Rattle.dep_types.specs.State.{State}
 use Rattle.sqlite.specs.Schema.{Schema}
-use Rattle.dep_schema.specs.States.{Represents}
+use Rattle.dep_schema.specs.States.{StoreRepresents}
 use Rattle.dep_schema.specs.Transactions.{IsBackAt, IsRestored}
 use Rattle.dep_schema.proofs.Transacting.{tables_back}
-use Rattle.dep_store.specs.Shut.{StoreLeavesNoMore, FailsIfShut, StaysOpen}
+use Rattle.dep_store.specs.Shut.{StoreLeavesNoMore, StoreFailsIfShut, StaysOpen}
 use Rattle.sqlite.specs.Listing.{understood}
 use Rattle.sqlite_tied.specs.Compute.{everything}
 use Rattle.sqlite_resolve.specs.declared.compiled.Compiled.{Compiled}
@@ -28,7 +28,7 @@ pub leaves_no_more : (old new : db.State) → Survives old new (λ _. ⊥) → S
 leaves_no_more old new survives clean shut trees h = elim (survives.crash clean trees h) [ inl earlier ↦ earlier | inr none ↦ absurd none ]
 
 -- it failed, and nothing was committed
-pub fails_still : {A E : Type 0} (old new : db.State) (r : Result A E) → IsErr r → Survives old new (λ _. ⊥) → FailsIfShut old new r
+pub fails_still : {A E : Type 0} (old new : db.State) (r : Result A E) → IsErr r → Survives old new (λ _. ⊥) → StoreFailsIfShut old new r
 fails_still old new r failed survives = record { opened = λ clean. IfOk-from_err r (λ _. _) failed; left = leaves_no_more old new survives }
 
 -- so all is given back where it failed
@@ -40,11 +40,11 @@ fails_staying old new r failed restored = record {
 }
 
 -- the store was open
-pub was_open_then : {A E : Type 0} (old new : db.State) (r : Result A E) → (HasCleanDisk new → IsTrue old.is_open) → FailsIfShut old new r
+pub was_open_then : {A E : Type 0} (old new : db.State) (r : Result A E) → (HasCleanDisk new → IsTrue old.is_open) → StoreFailsIfShut old new r
 was_open_then old new r was = record { opened = λ clean. on_any r _ (was clean); left = λ clean shut trees h. absurd (shut (was clean)) }
 
 -- all was given back, and the store is open
-pub state_back : (old new : db.State) (s : State) → IsBackAt old new → IsTrue new.is_open → Represents old s → Represents new s
+pub state_back : (old new : db.State) (s : State) → IsBackAt old new → IsTrue new.is_open → StoreRepresents old s → StoreRepresents new s
 state_back old new s back is_open represents =
     record { tables = represents.tables; represents = tables_back old new represents.tables back is_open represents.represents; means = represents.means }
 

@@ -2,7 +2,7 @@
 use Rattle.std.proofs.Common.{Result, Ok, Err, OnOk, OnErr, IsTrue}
 use Rattle.sqlite.specs.State as db
 use Rattle.dep_types.specs.State.{State}
-use Rattle.dep_schema.specs.States.{Represents}
+use Rattle.dep_schema.specs.States.{StoreRepresents}
 use Rattle.dep_schema.proofs.Transacting.{kept_alone}
 use Rattle.dep_bag.specs.Source.{StandsStill}
 use Rattle.dep_exchange.specs.Archives.{Reports}
@@ -19,6 +19,6 @@ pub represents_still : {A E : Type 0} (old new : db.State) (reported : State →
 represents_still old new reported r clean it = record {
   honest_before = it.honest;
   open_before = it.was_open;
-  stays = λ is_open s at. either_way r (Represents new s) (kept_alone r (reported s) (Represents new s) (it.ok (clean is_open) s at tt)) (it.err is_open s at);
+  stays = λ is_open s at. either_way r (StoreRepresents new s) (kept_alone r (reported s) (StoreRepresents new s) (it.ok (clean is_open) s at tt)) (it.err is_open s at);
   stop = λ honest s at. leaves_once (shown_by new) s (it.stop honest s at tt);
 }

@@ -14,12 +14,12 @@ use Rattle.dep_tables.proofs.Results.{if_failed}
 use Rattle.dep_staging.specs.declared.running.RunningHashes.{RunningHashes}
 use Rattle.dep_files.specs.Faults.{BlamesOutlet}
 use Rattle.dep_schema.specs.OpenTables.{Holds, StaysFile}
-use Rattle.dep_schema.specs.States.{TablesRepresent, Represents, DatabaseLeaves}
+use Rattle.dep_schema.specs.States.{TablesRepresent, StoreRepresents, DatabaseLeaves}
 use Rattle.dep_schema.specs.Transactions.{Transacts, OnlyReports, OverStates, IsBackAt, IsGivenBack, IsRestored}
 use Rattle.dep_schema.proofs.Transacting.{IsSettled, IsOver, ok_over_states, err_state, stop_over_states, ok_reports, still_reports, left_reports, leaves_still, leaves_as_was}
 use Rattle.dep_exchange.specs.Archives.{TriesTo, Ticks, Reports, KeepsState, KeepsAll, Always, CountsFailures}
 use Rattle.dep_store.specs.Archive.{shown_by}
-use Rattle.dep_store.specs.Shut.{FailsIfShut, SendsFile}
+use Rattle.dep_store.specs.Shut.{StoreFailsIfShut, StoreSendsFile}
 use Rattle.dep_schema.specs.Performing.{KeepsRunning}
 use Rattle.dep_store.specs.Staying.{ReportsTables, KeepsTables, LeavesOnly, HashesOn}
 use Rattle.dep_store.proofs.ShutLemmas.{state_back}
@@ -30,7 +30,7 @@ pub leaves_held : (d : db.State) {tables : Tables} (s : State) → TablesReprese
 leaves_held d {tables = tables} s means holds trees may = (s, inl (tables, holds trees may, means), refl)
 
 -- tables that stay represent the state still
-pub represents_still : {old new : db.State} (s : State) (h : Represents old s) → StaysFile new h.tables → Represents new s
+pub represents_still : {old new : db.State} (s : State) (h : StoreRepresents old s) → StaysFile new h.tables → StoreRepresents new s
 represents_still s h represents = record { tables = h.tables; represents = represents; means = h.means }
 
 -- a transaction goes on from each state of which this holds
@@ -121,9 +121,9 @@ keeps_same d = record {
 }
 
 -- from what a call that reads leaves by its answer
-pub keeps_state : {A E : Type 0} (old new : db.State) (r : Result A E) → (HasCleanDisk new → (s : State) → Represents old s → OnOk r (Represents new s))
-    → (IsTrue new.is_open → (s : State) → Represents old s → OnErr r (Represents new s)) → (HasCleanDisk new → HasCleanDisk old) → (IsTrue new.is_open → IsTrue old.is_open)
-    → (HasCleanDisk new → (s : State) → Represents old s → DatabaseLeaves new (λ left. left ≡ s)) → KeepsState (shown_by old) (shown_by new) r
+pub keeps_state : {A E : Type 0} (old new : db.State) (r : Result A E) → (HasCleanDisk new → (s : State) → StoreRepresents old s → OnOk r (StoreRepresents new s))
+    → (IsTrue new.is_open → (s : State) → StoreRepresents old s → OnErr r (StoreRepresents new s)) → (HasCleanDisk new → HasCleanDisk old) → (IsTrue new.is_open → IsTrue old.is_open)
+    → (HasCleanDisk new → (s : State) → StoreRepresents old s → DatabaseLeaves new (λ left. left ≡ s)) → KeepsState (shown_by old) (shown_by new) r
 keeps_state {A} {E} old new r ok err honest was_open stop = record {
   ok = λ clean s at always. each r s (ok clean s at);
   err = err;
@@ -132,7 +132,7 @@ keeps_state {A} {E} old new r ok err honest was_open stop = record {
   stop = λ clean s at always image h. let l = stop clean s at image h in (l.0, l.1, inl l.2);
 }
   where
-    each : (r : Result A E) (s : State) → OnOk r (Represents new s) → IfOk r (λ answer. Unit {0} × Represents new s)
+    each : (r : Result A E) (s : State) → OnOk r (StoreRepresents new s) → IfOk r (λ answer. Unit {0} × StoreRepresents new s)
     each (Ok answer) s h = (tt, h)
     each (Err fault) s h = tt
 
@@ -163,10 +163,10 @@ module _ (d : db.State) (busy : IsTrue d.in_transaction) where
     stop = λ clean t at. absurd (represents_not t at);
   }
 
-  pub busy_fails : {A E : Type 0} (r : Result A E) → IsErr r → FailsIfShut d d r
+  pub busy_fails : {A E : Type 0} (r : Result A E) → IsErr r → StoreFailsIfShut d d r
   busy_fails r failed = record { opened = λ clean. IfOk-from_err r (λ _. _) failed; left = λ clean shut trees h. h }
 
-  pub busy_sends : {A : Type 0} (taken : Option (List ℕ)) (failures file : ℕ) → SendsFile {A = A} d d taken taken failures failures file (Err StoreFails)
+  pub busy_sends : {A : Type 0} (taken : Option (List ℕ)) (failures file : ℕ) → StoreSendsFile {A = A} d d taken taken failures failures file (Err StoreFails)
   busy_sends taken failures file = record {
     streams = ([], Appends-nil taken, λ clean s at. inl refl);
     does = busy_tries (Err StoreFails) refl;

@@ -4,14 +4,14 @@ use Rattle.sqlite.specs.Held.{Held, state}
 use Rattle.sqlite.specs.Tree.{Trees}
 use Rattle.sqlite_trees.specs.declared.store.Store.{Ghosts}
 use Rattle.dep_types.specs.Conditions.{Condition}
-use Rattle.dep_schema.specs.States.{Represents, IsLeftAs}
+use Rattle.dep_schema.specs.States.{StoreRepresents, IsLeftAs}
 
 -- what its database shows
 abbrev pub shown_by : db.State → Condition
 shown_by d = record {
   is_open = d.is_open;
   is_honest = db.HasCleanDisk d;
-  keeps = Represents d;
+  keeps = StoreRepresents d;
   Image = Trees;
   may_leave = d.may_leave;
   is_left_as = IsLeftAs;

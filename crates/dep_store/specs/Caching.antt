@@ -5,13 +5,13 @@ use Rattle.dep_types.specs.State.{State, File, file_at}
 use Rattle.dep_types.specs.declared.config.Config.{Config}
 use Rattle.dep_answers.specs.declared.performed.StoredFile.{StoredFile}
 use Rattle.dep_requests.specs.declared.caching.Cache.{Cache}
-use Rattle.dep_schema.specs.States.{Represents}
+use Rattle.dep_schema.specs.States.{StoreRepresents}
 use Rattle.dep_schema.specs.Transactions.{FindsOpen}
 use Rattle.dep_requests.specs.Caching.{IsCacheOf}
 
 -- what is cached is that of each state for which the database stands
 abbrev pub IsCached : db.State → Option Cache → Type 0
-IsCached d found = (m : Cache) → found ≡ Some m → (s : State) → Represents d s → IsCacheOf m s
+IsCached d found = (m : Cache) → found ≡ Some m → (s : State) → StoreRepresents d s → IsCacheOf m s
 
 -- it is cached of a store that is open, where the disk has told no lie that was taken as true
 abbrev pub IsOfOpen : db.State → Option Cache → Type 0
@@ -29,7 +29,7 @@ MayCache config moment s found = (m : Cache) → found ≡ Some m → IsReadOf c
 -- what may be cached is read, and nothing changed
 pub record LoadsCache {E : Type 0} (old new : db.State) (config : Config) (moment : ℕ)
     (result : Result (Option Cache) E) : Type 0 where
-  pub is_cache : (s : State) → Represents new s → IfOk result (MayCache config moment s)
+  pub is_cache : (s : State) → StoreRepresents new s → IfOk result (MayCache config moment s)
   pub finds : FindsOpen old new result
 
 -- ---- a content that is sent
@@ -45,4 +45,4 @@ IsOfSize s it = HasSize s it.object it.file it.size
 -- it is known of each state for which the database stands; and the store is open, over an honest disk
 abbrev pub IsKnownFile : db.State → Option StoredFile → Type 0
 IsKnownFile d known = (it : StoredFile) → known ≡ Some it
-    → ((s : State) → Represents d s → IsOfSize s it) × (db.HasCleanDisk d → IsTrue d.is_open)
+    → ((s : State) → StoreRepresents d s → IsOfSize s it) × (db.HasCleanDisk d → IsTrue d.is_open)

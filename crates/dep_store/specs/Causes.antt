@@ -9,7 +9,7 @@ use Rattle.dep_tables.specs.Versions.{our_version, older_version}
 use Rattle.dep_tables.specs.declared.sha512s.FileSha512.{FileSha512}
 use Rattle.dep_migrations.specs.Beside.{AreNewNamesFree}
 use Rattle.dep_schema.specs.OpenFaults.{open_fault_for, begun, FailsToOpen, ShowsOrMakes, ReportsVersion}
-use Rattle.dep_schema.specs.OpenTables.{IsStill}
+use Rattle.dep_schema.specs.OpenTables.{SeesTheSame}
 use Rattle.dep_schema.specs.Upgrading.{FailsToUpgrade}
 use Rattle.dep_schema.specs.declared.opening.OpenFault.{OpenFault}
 use Rattle.dep_files.specs.Causes.{FailsToHashFiles}
@@ -46,7 +46,7 @@ module _ {S : Type 0} (g : Ghosts S) (old new : Held S) where
   FailsToOpenTables fault =
       FailsToOpen g old new fault
       ⊎ (ReportsVersion (state g old) older_version
-      × (opened : Held S) × IsStill (state g old) (state g opened)
+      × (opened : Held S) × SeesTheSame (state g old) (state g opened)
       × (reported : StoreFault) × (fault ≡ open_fault_for reported)
       × (IsKnown (state g old) → FailsToMigrate g opened new reported))
 

@@ -7,7 +7,7 @@ use Rattle.dep_tables.specs.declared.state.StateRow.{StateRow}
 use Rattle.dep_exchange.specs.Archives.{KeepsState}
 use Rattle.dep_schema.specs.Transactions.{Transacts}
 use Rattle.dep_store.specs.Archive.{shown_by}
-use Rattle.dep_store.specs.Shut.{FailsIfShut}
+use Rattle.dep_store.specs.Shut.{StoreFailsIfShut}
 
 -- the row of the clock and the counters was written as it was read, and nothing else
 abbrev pub RewritesClock : Tables → Tables → Type 0
@@ -18,4 +18,4 @@ RewritesClock before after =
 pub record CopiesLog {A E : Type 0} (old new : db.State) (result : Result A E) : Type 0 where
   pub does : KeepsState (shown_by old) (shown_by new) result
   pub transacts : Transacts old new result (λ before done after. RewritesClock before after)
-  pub shut : FailsIfShut old new result
+  pub shut : StoreFailsIfShut old new result

@@ -8,14 +8,14 @@ use Rattle.dep_types.specs.Conditions.{Condition}
 use Rattle.dep_types.specs.State.{State}
 use Rattle.dep_staging.specs.HashedAhead.{AreRunning}
 use Rattle.dep_staging.specs.declared.running.RunningHashes.{RunningHashes}
-use Rattle.dep_schema.specs.States.{Represents, IsLeftAs}
+use Rattle.dep_schema.specs.States.{StoreRepresents, IsLeftAs}
 use Rattle.dep_exchange.specs.ArchiveCalls.{CallLog}
 use Rattle.dep_store.specs.LogCopies.{has_call}
 use Rattle.dep_store.specs.declared.archive.HashingStore.{HashingStore}
 
 -- the database represents the state, and what was hashed is what was received there
-pub record Keeps (d : db.State) (running : RunningHashes) (s : State) : Type 0 where
-  pub represents : Represents d s
+pub record KeepsHashed (d : db.State) (running : RunningHashes) (s : State) : Type 0 where
+  pub represents : StoreRepresents d s
   pub hashed : AreRunning s running
 
 -- what its database shows, beside what was hashed
@@ -23,7 +23,7 @@ abbrev pub shown_with_hashes : db.State → RunningHashes → Condition
 shown_with_hashes d running = record {
   is_open = d.is_open;
   is_honest = db.HasCleanDisk d;
-  keeps = Keeps d running;
+  keeps = KeepsHashed d running;
   Image = Trees;
   may_leave = d.may_leave;
   is_left_as = IsLeftAs;

@@ -12,7 +12,7 @@ use Rattle.dep_tables.specs.declared.sha512s.FileSha512.{FileSha512}
 use Rattle.dep_row_maps.specs.Sha512s.{upgraded}
 use Rattle.dep_schema.specs.OpenFaults.{ReportsVersion}
 use Rattle.dep_schema.specs.OpenTables.{Holds, HoldsOlder, HoldsNone, StaysFile, IsOpenWithOlder, IsBack, IsOpenable}
-use Rattle.dep_schema.specs.States.{Represents, OlderRepresents, IsLeftAs, DatabaseLeaves}
+use Rattle.dep_schema.specs.States.{StoreRepresents, OlderRepresents, IsLeftAs, DatabaseLeaves}
 use Rattle.dep_schema.specs.declared.opening.OpenFault.{OpenFault}
 use Rattle.dep_schema.specs.declared.opening.OpenFault.TheVariants.{UnknownVersion}
 use Rattle.dep_files.specs.Sha512s.{AreValuesOf}
@@ -35,7 +35,7 @@ pub record Migrates {A E : Type 0} (old new : db.State) (result : Result A E) : 
 
 -- it represents the state in one of the versions
 abbrev pub Stood : db.State → State → Type 0
-Stood d s = Represents d s ⊎ OlderRepresents d s
+Stood d s = StoreRepresents d s ⊎ OlderRepresents d s
 
 -- What tables of version 1 are once they were opened, by the version in their row: those of version 2, or, where
 -- the row has that already, what they were.
@@ -46,7 +46,7 @@ OpensOlder t new =
 
 -- What an open that failed leaves as it was committed: a database with the schema of one of our versions, and each one
 -- of which version 1 is not shown, such as one without a table `format`.
-pub record Keeps (old new : db.State) : Type 0 where
+pub record KeepsDatabase (old new : db.State) : Type 0 where
   pub known : IsKnown old → IsBack old new
   pub other : (ReportsVersion old older_version → ⊥) → IsBack old new
 
@@ -72,12 +72,12 @@ module _ {S : Type 0} (g : Ghosts S) (old : Held S) where
   -- a database with no table is the empty archive's
   abbrev pub StartsEmpty : Held S → Type 0
   StartsEmpty new = HasCleanDisk (state g new) → HoldsNone (state g old).now.trees
-      → Represents (state g new) empty_state
+      → StoreRepresents (state g new) empty_state
 
   -- one that represented a state, in either version, represents it
   abbrev pub FindsState : Held S → Type 0
   FindsState new = HasCleanDisk (state g new) → (s : State) → IsLeftAs (state g old).now.trees s
-      → Represents (state g new) s
+      → StoreRepresents (state g new) s
 
   -- tables of version 2 are those that were there
   abbrev pub FindsTables : Held S → Type 0
@@ -101,7 +101,7 @@ module _ {S : Type 0} (g : Ghosts S) (old : Held S) where
 
   -- while the store is open, tables are kept in the version that they had
   abbrev pub KeepsTables : OpenFault × Held S → Type 0
-  KeepsTables refused = IsTrue (state g refused.1).is_open → Keeps (state g old) (state g refused.1)
+  KeepsTables refused = IsTrue (state g refused.1).is_open → KeepsDatabase (state g old) (state g refused.1)
 
   -- and what represented a state represents it still
   abbrev pub StillRepresents : OpenFault × Held S → Type 0

@@ -5,7 +5,7 @@ use Rattle.sqlite.specs.State.{HasCleanDisk}
 use Rattle.dep_types.specs.State.{State}
 use Rattle.dep_types.specs.Sound.{IsSound}
 use Rattle.dep_row_maps.specs.Clauses.{FromMaps}
-use Rattle.dep_schema.specs.States.{Represents}
+use Rattle.dep_schema.specs.States.{StoreRepresents}
 use Rattle.dep_schema.specs.Transactions.{FindsOpen, IsRestored}
 
 -- in a transaction, while the store is open, this is told of each state that the tables represent
@@ -14,12 +14,12 @@ ReportsFrom old new reported = IsTrue old.is_open → FromMaps old new (λ s. Is
 
 -- so it is of each state that the store represented, and all was given back
 pub record GivesBack (old new : db.State) (reported : State → Type 0) : Type 0 where
-  pub reports : IsTrue new.is_open → (s : State) → Represents old s → reported s
+  pub reports : IsTrue new.is_open → (s : State) → StoreRepresents old s → reported s
   pub restored : IsRestored old new
 
 -- so an Ok is told, over a store that is open then
 pub record ReadsOpen {A E : Type 0} (old new : db.State) (reported : Result A E → State → Type 0)
     (result : Result A E) : Type 0 where
-  pub reports : IfOk result (λ answer. HasCleanDisk new → (s : State) → Represents old s
+  pub reports : IfOk result (λ answer. HasCleanDisk new → (s : State) → StoreRepresents old s
       → reported (Ok answer) s)
   pub finds : FindsOpen old new result

@@ -8,18 +8,18 @@ use Rattle.dep_types.specs.Writing.{TakesPart}
 use Rattle.dep_types.specs.declared.stream_fault.StreamFault.{StreamFault}
 use Rattle.dep_types.specs.declared.stream_fault.StreamFault.TheVariants.{Writer, Store, Memory, NoSuchFile}
 use Rattle.dep_answers.specs.declared.performed.StoredFile.{StoredFile}
-use Rattle.dep_schema.specs.States.{Represents}
+use Rattle.dep_schema.specs.States.{StoreRepresents}
 use Rattle.dep_schema.specs.Transactions.{FindsOpen}
 use Rattle.dep_exchange.specs.Archives.{KeepsState, CountsFailures}
 use Rattle.dep_exchange.specs.Owing.{Begins, StreamsOn, TakesFew, step_bytes}
 use Rattle.dep_store.specs.Archive.{shown_by}
 use Rattle.dep_store.specs.Caching.{HasSize}
-use Rattle.dep_store.specs.Shut.{StaysOpen, FailsIfShut}
+use Rattle.dep_store.specs.Shut.{StaysOpen, StoreFailsIfShut}
 
 -- the file was found to be there, with so many bytes, and nothing changed
 pub record FindsSize {E : Type 0} (old new : db.State) (it : StoredFile) (result : Result ℕ E)
     : Type 0 where
-  pub reports : HasCleanDisk new → (s : State) → Represents old s
+  pub reports : HasCleanDisk new → (s : State) → StoreRepresents old s
       → IfOk result (HasSize s it.object it.file)
   pub finds : FindsOpen old new result
 
@@ -41,7 +41,7 @@ GivesNext taken takes bytes start size (Err Memory) = ⊥
 GivesNext taken takes bytes start size (Err NoSuchFile) = ⊥
 
 -- a few blocks more are sent, over an outlet that took these bytes and failed so often
-pub record SendsOn (old new : db.State) (taken takes : Option (List ℕ)) (failures failures_after : ℕ)
+pub record SendsNextBlocks (old new : db.State) (taken takes : Option (List ℕ)) (failures failures_after : ℕ)
     (it : StoredFile) (start : ℕ) (result : Result (Option ℕ) StreamFault) : Type 0 where
   pub streams : StreamsOn (shown_by old) (shown_by new) taken takes it start result
   pub few : TakesFew taken takes
@@ -54,4 +54,4 @@ pub record BeginsIfOpen {A E : Type 0} (old new : db.State) (it : StoredFile) (r
     : Type 0 where
   pub begins : Begins (shown_by new) it result
   pub does : KeepsState (shown_by old) (shown_by new) result
-  pub shut : FailsIfShut old new result
+  pub shut : StoreFailsIfShut old new result

@@ -22,7 +22,7 @@ StoreLeavesNoMore old new = db.HasCleanDisk new → ¬ IsTrue old.is_open
     → (trees : Trees) → new.may_leave trees → old.may_leave trees
 
 -- so it fails
-pub record FailsIfShut {A E : Type 0} (old new : db.State) (result : Result A E) : Type 0 where
+pub record StoreFailsIfShut {A E : Type 0} (old new : db.State) (result : Result A E) : Type 0 where
   pub opened : db.HasCleanDisk new → OnOk result (IsTrue old.is_open)
   pub left : StoreLeavesNoMore old new
 
@@ -30,16 +30,16 @@ pub record FailsIfShut {A E : Type 0} (old new : db.State) (result : Result A E)
 pub record TicksIfOpen {E : Type 0} (old new : db.State) (config : Config) (moment : ℕ) (result : Result ℕ E)
     : Type 0 where
   pub does : Ticks (shown_by old) (shown_by new) config moment result
-  pub shut : FailsIfShut old new result
+  pub shut : StoreFailsIfShut old new result
 
 -- so it fails; an Ok has found the store open, and leaves it so, with all as it was
 pub record StaysOpen {A E : Type 0} (old new : db.State) (result : Result A E) : Type 0 where
-  pub shut : FailsIfShut old new result
+  pub shut : StoreFailsIfShut old new result
   pub back : OnOk result (IsBackAt old new)
   pub opened : db.HasCleanDisk new → OnOk result (IsTrue new.is_open)
 
 -- what a call does that sends the content of a file, over an outlet that took these bytes and failed so often
-pub record SendsFile {A : Type 0} (old new : db.State) (taken takes : Option (List ℕ)) (failures failures_after : ℕ)
+pub record StoreSendsFile {A : Type 0} (old new : db.State) (taken takes : Option (List ℕ)) (failures failures_after : ℕ)
     (file : ℕ) (result : Result A StreamFault) : Type 0 where
   pub streams : Streams (shown_by old) (shown_by new) taken takes file result
   pub does : KeepsState (shown_by old) (shown_by new) result

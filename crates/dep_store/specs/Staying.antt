@@ -8,7 +8,7 @@ use Rattle.dep_exchange.specs.Archives.{KeepsAll}
 use Rattle.dep_staging.specs.declared.running.RunningHashes.{RunningHashes}
 use Rattle.dep_schema.specs.OpenTables.{Holds, StaysFile}
 use Rattle.dep_schema.specs.Performing.{KeepsRunning}
-use Rattle.dep_schema.specs.States.{Represents, DatabaseLeaves}
+use Rattle.dep_schema.specs.States.{StoreRepresents, DatabaseLeaves}
 use Rattle.dep_store.specs.Archive.{shown_by}
 
 -- whatever its tables are, they stay, while it is open
@@ -42,4 +42,4 @@ pub record KeepsTables (old new : db.State) : Type 0 where
   pub still : TablesStay old new
   pub honest : db.HasCleanDisk new → db.HasCleanDisk old
   pub was_open : IsTrue new.is_open → IsTrue old.is_open
-  pub stop : db.HasCleanDisk new → (s : State) → Represents old s → DatabaseLeaves new (λ left. left ≡ s)
+  pub stop : db.HasCleanDisk new → (s : State) → StoreRepresents old s → DatabaseLeaves new (λ left. left ≡ s)

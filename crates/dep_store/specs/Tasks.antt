@@ -7,7 +7,7 @@ use Rattle.dep_tables.specs.Tables.{Tables, tables_of, IsOurs}
 use Rattle.dep_schema.specs.Transactions.{Transacts}
 
 -- inside a transaction over our tables an Ok makes this of them, and they are ours still
-pub record Makes {T L A E : Type 0} (lenders : T → L) (state : T → db.State) (old new : T)
+pub record MakesTables {T L A E : Type 0} (lenders : T → L) (state : T → db.State) (old new : T)
     (result : Result A E) (this : Tables → A → Tables → Type 0) : Type 0 where
   pub made : HasCleanDisk (state new) → IsTrue (state old).in_transaction → IsOurs (state old)
       → IfOk result (λ answer. IsOurs (state new)

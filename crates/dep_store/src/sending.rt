@@ -3,7 +3,7 @@
 ghost use Rattle.std.specs.Prelude.{◌≡◌, false};
 ghost use Rattle.sqlite.specs.Held.{state};
 ghost use Rattle.dep_store.specs.Caching.{IsKnownFile};
-ghost use Rattle.dep_store.specs.Shut.{SendsFile};
+ghost use Rattle.dep_store.specs.Shut.{StoreSendsFile};
 
 use dep_answers::StoredFile;
 use dep_files::{stream_blocks, stream_content};
@@ -22,7 +22,7 @@ pub(crate) fn stream_known<S: Alter, O: Outlet>(
 ) -> Result<(), StreamFault>
     requires settled { (state S.Store connection.old).in_transaction ≡ false }
     requires there { IsKnownFile (state S.Store connection.old) known }
-    ensures sends { SendsFile (state S.Store connection.old) (state S.Store connection.new)
+    ensures sends { StoreSendsFile (state S.Store connection.old) (state S.Store connection.new)
         (O.taken out.old) (O.taken out.new) (O.failures out.old) (O.failures out.new) file result }
 {
     if let Some(it) = known {

@@ -4,7 +4,7 @@ ghost use Rattle.std.specs.Prelude.{◌≡◌, ◌<◌, false};
 ghost use Rattle.sqlite.specs.Held.{state};
 ghost use Rattle.dep_files.specs.Faults.{BlamesOutlet};
 ghost use Rattle.dep_store.specs.Caching.{IsKnownFile};
-ghost use Rattle.dep_store.specs.SendingOn.{FindsSize, GivesNext, SendsOn};
+ghost use Rattle.dep_store.specs.SendingOn.{FindsSize, GivesNext, SendsNextBlocks};
 
 use crate::read_transaction::{FindFile, NextBytes, read_if_open};
 use dep_answers::StoredFile;
@@ -85,7 +85,7 @@ pub(crate) fn send_on<S: Alter, O: Outlet>(
 ) -> Result<Option<u64>, StreamFault>
     requires settled { (state S.Store connection.old).in_transaction ≡ false }
     requires there { IsKnownFile (state S.Store connection.old) known }
-    ensures sends { SendsOn (state S.Store connection.old) (state S.Store connection.new)
+    ensures sends { SendsNextBlocks (state S.Store connection.old) (state S.Store connection.new)
         (O.taken out.old) (O.taken out.new) (O.failures out.old) (O.failures out.new)
         place.it place.start result }
 {

@@ -10,7 +10,7 @@ ghost use Rattle.dep_answers.specs.Steps.{operation_step};
 ghost use Rattle.dep_row_maps.specs.Keyed.{next_entry};
 ghost use Rattle.dep_tables.specs.Edits.{IsObjectAfter};
 ghost use Rattle.dep_staging.specs.HashedAhead.{AreRunning};
-ghost use Rattle.dep_schema.specs.States.{Represents, DatabaseLeaves};
+ghost use Rattle.dep_schema.specs.States.{StoreRepresents, DatabaseLeaves};
 ghost use Rattle.dep_schema.specs.Performing.{IsKeptUnchanged, KeepsRunning};
 ghost use Rattle.dep_store.specs.Causes.{OpensFor, RefusesFor};
 ghost use Rattle.dep_store.specs.Migrating.{FindsOlder, FindsState, FindsTables, StillRepresents, KeepsTables, OfEither, OpenLeaves, RefusesNoState, RefusesNone, StartsEmpty};
@@ -19,8 +19,8 @@ ghost use Rattle.dep_exchange.specs.Archives.{MakesStep, Reports, KeepsAll};
 ghost use Rattle.dep_files.specs.Fixity.{IsAudited};
 ghost use Rattle.dep_store.specs.Archive.{condition_of};
 ghost use Rattle.dep_store.specs.Copying.{CopiesLog};
-ghost use Rattle.dep_store.specs.SendingOn.{BeginsIfOpen, SendsOn};
-ghost use Rattle.dep_store.specs.Shut.{FailsIfShut, StoreFailsToReport, SendsFile, TicksIfOpen};
+ghost use Rattle.dep_store.specs.SendingOn.{BeginsIfOpen, SendsNextBlocks};
+ghost use Rattle.dep_store.specs.Shut.{StoreFailsIfShut, StoreFailsToReport, StoreSendsFile, TicksIfOpen};
 ghost use Rattle.dep_store.specs.Staying.{TablesStay, ReportsTables, LeavesOnly, HashesOn};
 
 use crate::caching::{Known, look, report_open};
@@ -178,7 +178,7 @@ impl<S: Alter> Store<S> {
         ensures running { KeepsRunning (state S.Store self.old) (state S.Store self.new)
             running.old running.new }
         // On a store that was shut it fails, and a crash leaves what it could leave before.
-        ensures shut { FailsIfShut (state S.Store self.old) (state S.Store self.new) result }
+        ensures shut { StoreFailsIfShut (state S.Store self.old) (state S.Store self.new) result }
     {
         check_settled(&self.connection)?;
         if let Some(it) = cached(&self.known.cache, operation) {
@@ -253,7 +253,7 @@ impl<S: Alter> Store<S> {
     /// Sends the content of the file of this number, one block at a time.
     pub fn stream<O: Outlet>(&mut self, file: u64, out: &mut O) -> Result<(), StreamFault>
         // On a store that was shut it fails, and a crash leaves what it could leave before.
-        ensures { SendsFile (state S.Store self.old) (state S.Store self.new)
+        ensures { StoreSendsFile (state S.Store self.old) (state S.Store self.new)
             (O.taken out.old) (O.taken out.new) (O.failures out.old) (O.failures out.new)
             file result }
     {
@@ -288,7 +288,7 @@ impl<S: Alter> Store<S> {
         out: &mut O,
     ) -> Result<Option<u64>, StreamFault>
         // On a store that was shut it fails, and a crash leaves what it could leave before.
-        ensures { SendsOn (state S.Store self.old) (state S.Store self.new)
+        ensures { SendsNextBlocks (state S.Store self.old) (state S.Store self.new)
             (O.taken out.old) (O.taken out.new) (O.failures out.old) (O.failures out.new)
             it start result }
     {
@@ -337,7 +337,7 @@ impl<S: Alter> Store<S> {
         ensures does { ReportsTables (state S.Store self.old) (state S.Store self.new)
             (λ t. IsAudited t object) result }
         // On a store that was shut it fails, and a crash leaves what it could leave before.
-        ensures shut { FailsIfShut (state S.Store self.old) (state S.Store self.new) result }
+        ensures shut { StoreFailsIfShut (state S.Store self.old) (state S.Store self.new) result }
     {
         self.known = Known::NOTHING;
         audit_files(&mut self.connection, self.alloc, object, watch)
@@ -365,7 +365,7 @@ impl<S: Alter> Store<S> {
 
     /// While the store represents a state, a crash leaves that state.
     pub fn settled(&self)
-        ensures left { (s : State) → Represents (state S.Store self.now) s
+        ensures left { (s : State) → StoreRepresents (state S.Store self.now) s
             → DatabaseLeaves (state S.Store self.now) (λ left. left ≡ s) }
         ensures clean { IsTrue (state S.Store self.now).is_open
             → HasCleanDisk (state S.Store self.now) }

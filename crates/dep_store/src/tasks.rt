@@ -4,7 +4,7 @@ ghost use Rattle.std.specs.Prelude.{◌≡◌, IsTrue, MatchResult, false};
 ghost use Rattle.sqlite.specs.Held.{state};
 ghost use Rattle.dep_types.specs.declared.store_fault.StoreFault.TheVariants.{Store};
 ghost use Rattle.dep_tables.specs.Tables.{Tables};
-ghost use Rattle.dep_store.specs.Tasks.{Makes, TransactsIfOpen};
+ghost use Rattle.dep_store.specs.Tasks.{MakesTables, TransactsIfOpen};
 
 use dep_schema::{Lent, commit};
 use dep_tables::Statements;
@@ -21,7 +21,7 @@ pub(crate) trait Task {
 
     /// Does it.
     fn run<T: Statements>(&self, tx: &mut T) -> Result<Self::Answer, StoreFault>
-        ensures { Makes T.lenders T.state tx.old tx.new result (makes self.now) };
+        ensures { MakesTables T.lenders T.state tx.old tx.new result (makes self.now) };
 }
 
 /// Fails where a transaction is under way.

@@ -48,8 +48,8 @@ module _ {A E : Type 0} (old new : State) (result : Result A E) where
       × (IsTrue new.in_transaction ⊎ (new.now ≡ old.committed)))
 
   -- after an Ok the transaction goes on
-  abbrev pub GoesOn : Type 0
-  GoesOn = HasCleanDisk new → IsTrue old.in_transaction → OnOk result (IsTrue new.in_transaction)
+  abbrev pub TransactionGoesOn : Type 0
+  TransactionGoesOn = HasCleanDisk new → IsTrue old.in_transaction → OnOk result (IsTrue new.in_transaction)
 
 module _ (old new : State) where
   -- inside a transaction nothing is committed
@@ -66,7 +66,7 @@ module _ {T L A E : Type 0} (lenders : T → L) (state : T → State) (old new :
     -- it is the same transaction, over the same connection
     pub same_reference : lenders new ≡ lenders old
     pub survives : CommitsNothing (state old) (state new)
-    pub inside : GoesOn (state old) (state new) result
+    pub inside : TransactionGoesOn (state old) (state new) result
     pub kept : StaysInside (state old) (state new)
     pub fails : FailsInside (state old) (state new) result
 

@@ -3,8 +3,8 @@
 use Rattle.std.specs.Prelude.{◌≡◌, ℕ, List, [], ◌∷◌, ◌++◌, flat_map}
 
 -- a path and its bytes
-abbrev pub Entry : Type 0
-Entry = List ℕ × List ℕ
+abbrev pub PathAndBytes : Type 0
+PathAndBytes = List ℕ × List ℕ
 
 abbrev pub folder_mark : ℕ
 folder_mark = 256
@@ -31,11 +31,11 @@ abbrev pub file_ended : List ℕ
 file_ended = file_end ∷ []
 
 -- a whole file, from its beginning to its end
-abbrev pub file_given : Entry → List ℕ
+abbrev pub file_given : PathAndBytes → List ℕ
 file_given file = file_begun file.0 ++ file.1 ++ file_ended
 
 -- these folders, and then these files
-abbrev pub transcript : (folders : List (List ℕ)) (files : List Entry) → List ℕ
+abbrev pub transcript : (folders : List (List ℕ)) (files : List PathAndBytes) → List ℕ
 transcript folders files = flat_map folder_made folders ++ flat_map file_given files
 
 -- the prefix of some bytes, perhaps all of them

@@ -6,7 +6,7 @@ use Rattle.std.specs.FinMap as finmap
 use Rattle.std.specs.FinSet as set
 use Rattle.std.specs.List.{All}
 use Rattle.std.proofs.lemmas.List.Elements.{All-map}
-use Rattle.dep_types.specs.State.{State, Upload as Staged}
+use Rattle.dep_types.specs.State.{State, Upload}
 use Rattle.dep_types.specs.Rows.{upload_row}
 use Rattle.dep_types.specs.Uploads.{is_complete}
 use Rattle.dep_types.specs.declared.rows.UploadRow.{UploadRow}
@@ -26,7 +26,7 @@ use Rattle.dep_views.specs.declared.view.LoadedView.{LoadedView}
 row_alone : (s : State) (u : ℕ) → state_undigested (upload_state false s u) ≡ upload_state false s u
 row_alone s u = go (finmap.get s.uploads u) (set.contains s.timed_out u)
   where
-    go : (o : Option Staged) (b : Bool) → state_undigested (option_map_or (λ it. Live (live_upload false u it)) o (if b then TimedOut else Unknown))
+    go : (o : Option Upload) (b : Bool) → state_undigested (option_map_or (λ it. Live (live_upload false u it)) o (if b then TimedOut else Unknown))
         ≡ option_map_or (λ it. Live (live_upload false u it)) o (if b then TimedOut else Unknown)
     go (Some it) b = refl
     go None true = refl
@@ -37,24 +37,24 @@ rows_alone s [] = refl
 rows_alone s (u ∷ us) = (λ i. record { upload = u; state = row_alone s u i } ∷ rows_alone s us i)
 
 module _ (s : State) (u : ℕ) where
-  abbrev reported_by : Option Staged → Bool → UploadState
+  abbrev reported_by : Option Upload → Bool → UploadState
   reported_by o b = option_map_or (λ it. Live (live_upload true u it)) o (if b then TimedOut else Unknown)
 
   -- what isn't there has no digest
   pub reported_gone : (state : UploadState) → ((live : LiveUpload) → state ≢ Live live) → state ≡ state_undigested (upload_state true s u) → state ≡ upload_state true s u
   reported_gone state gone = go (finmap.get s.uploads u) (set.contains s.timed_out u)
     where
-      go : (o : Option Staged) (b : Bool) → state ≡ state_undigested (reported_by o b) → state ≡ reported_by o b
+      go : (o : Option Upload) (b : Bool) → state ≡ state_undigested (reported_by o b) → state ≡ reported_by o b
       go (Some it) b same = absurd (gone _ same)
       go None true same = same
       go None false same = same
 
   pub reported_hashed : (live : LiveUpload) (digests : Option Digests) → Live live ≡ state_undigested (upload_state true s u)
-      → ((it : Staged) → finmap.get s.uploads live.row.upload ≡ Some it → live.row.count ≡ it.count → live.is_whole ≡ is_complete it → digests ≡ assembled_digests it)
+      → ((it : Upload) → finmap.get s.uploads live.row.upload ≡ Some it → live.row.count ≡ it.count → live.is_whole ≡ is_complete it → digests ≡ assembled_digests it)
       → Live (record { row = live.row; is_whole = live.is_whole; digests = digests }) ≡ upload_state true s u
   reported_hashed live digests seen reported = go (finmap.get s.uploads u) (set.contains s.timed_out u) refl seen
     where
-      go : (o : Option Staged) (b : Bool) → finmap.get s.uploads u ≡ o → Live live ≡ state_undigested (reported_by o b) → Live (record { row = live.row; is_whole = live.is_whole; digests = digests }) ≡ reported_by o b
+      go : (o : Option Upload) (b : Bool) → finmap.get s.uploads u ≡ o → Live live ≡ state_undigested (reported_by o b) → Live (record { row = live.row; is_whole = live.is_whole; digests = digests }) ≡ reported_by o b
       go (Some it) b there same =
           let is : live ≡ record (live_upload true u it) { digests = None } = cc same in
           let row : live.row ≡ upload_row u it = ap (λ (l : LiveUpload). l.row) is in

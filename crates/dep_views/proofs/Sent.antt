@@ -6,7 +6,7 @@ use Rattle.std.specs.FinMap as finmap
 use Rattle.std.specs.FinSet as set
 use Rattle.std.proofs.lemmas.Bool.Decides.{nat_tests}
 use Rattle.dep_types.specs.Maps.{Numbered, ◌>>=◌}
-use Rattle.dep_types.specs.State.{State, Upload as Staged}
+use Rattle.dep_types.specs.State.{State, Upload}
 use Rattle.dep_types.specs.Sound.{IsSound}
 use Rattle.dep_types.specs.Uploads.{segment_length, sizes_agree}
 use Rattle.dep_decisions.specs.LookUps.{repeats}
@@ -18,9 +18,9 @@ use Rattle.dep_operations.specs.declared.view.UploadState.TheVariants.{Live, Tim
 use Rattle.dep_operations.specs.declared.view.UploadView.{UploadView}
 use Rattle.dep_staging.specs.Comparing.{IsNoEmptySegment}
 
-module _ (uploads : Numbered Staged) (u k : ℕ) where
-  repeat_by : (bytes : List ℕ) (o : Option Staged) → finmap.get uploads u ≡ o
-      → option_map (λ stored. bytes_eq stored bytes) (finmap.get (option_map_or (λ (it : Staged). it.segments) o finmap.empty) k) ≡ (o >>= (λ it. repeats it k bytes))
+module _ (uploads : Numbered Upload) (u k : ℕ) where
+  repeat_by : (bytes : List ℕ) (o : Option Upload) → finmap.get uploads u ≡ o
+      → option_map (λ stored. bytes_eq stored bytes) (finmap.get (option_map_or (λ (it : Upload). it.segments) o finmap.empty) k) ≡ (o >>= (λ it. repeats it k bytes))
   repeat_by bytes (Some it) is = refl
   repeat_by bytes None is = ap (option_map (λ stored. bytes_eq stored bytes)) (finmap.get-empty {X = List ℕ} nat_cmp k)
 
@@ -43,7 +43,7 @@ has_one zero h = absurd (omega (arith, h))
 has_one (suc m) h = (m, refl)
 
 -- a segment that was received has a byte
-some_bytes : (it : Staged) (k : ℕ) → 1 ≤ it.count → sizes_agree it.size it.count it.segment_size ≡ true → 0 < segment_length it k
+some_bytes : (it : Upload) (k : ℕ) → 1 ≤ it.count → sizes_agree it.size it.count it.segment_size ≡ true → 0 < segment_length it k
 some_bytes it k counted sizes =
     let m = has_one it.count counted in
     let less : (it.count - 1) * it.segment_size < it.size = grind (arith, nat_tests) in
@@ -56,7 +56,7 @@ some_bytes it k counted sizes =
 pub no_empty_segment : (s : State) (u k : ℕ) → IsSound s → IsNoEmptySegment s u k
 no_empty_segment s u k sound = go (finmap.get s.uploads u) refl
   where
-    go : (o : Option Staged) → finmap.get s.uploads u ≡ o → finmap.get (option_map_or (λ (it : Staged). it.segments) o finmap.empty) k ≢ Some []
+    go : (o : Option Upload) → finmap.get s.uploads u ≡ o → finmap.get (option_map_or (λ (it : Upload). it.segments) o finmap.empty) k ≢ Some []
     go (Some it) there e =
         let its = sound.uploads u it there in
         let long = (its.segments k [] e).2 in
@@ -67,34 +67,34 @@ no_empty_segment s u k sound = go (finmap.get s.uploads u) refl
 -- ---- an upload that can't have it
 
 module _ (s : State) (by_reference : Bool) (u : ℕ) where
-  abbrev state_by : Option Staged → Bool → UploadState
+  abbrev state_by : Option Upload → Bool → UploadState
   state_by o timed_out = state_undigested (option_map_or (λ it. Live (live_upload by_reference u it)) o (if timed_out then TimedOut else Unknown))
 
-  abbrev live_by : Staged → LiveUpload
+  abbrev live_by : Upload → LiveUpload
   live_by it = record (live_upload by_reference u it) { digests = None }
 
   -- of an upload that isn't there
   pub lacks_all : (state : UploadState) → ((live : LiveUpload) → Live live ≡ state → ⊥) → state ≡ state_undigested (upload_state by_reference s u) → (k : ℕ) → finmap.get (segments_at s.uploads u) k ≡ None
   lacks_all state gone is k = go (finmap.get s.uploads u) is
     where
-      go : (o : Option Staged) → state ≡ state_by o (set.contains s.timed_out u) → finmap.get (option_map_or (λ (it : Staged). it.segments) o finmap.empty) k ≡ None
+      go : (o : Option Upload) → state ≡ state_by o (set.contains s.timed_out u) → finmap.get (option_map_or (λ (it : Upload). it.segments) o finmap.empty) k ≡ None
       go None e = finmap.get-empty {X = List ℕ} nat_cmp k
       go (Some it) e = absurd (gone (live_by it) (sym e))
 
   -- an upload that is there is told with its count
-  pub reported_there : (live : LiveUpload) → Live live ≡ state_undigested (upload_state by_reference s u) → (it : Staged) × (finmap.get s.uploads u ≡ Some it) × (live.row.count ≡ it.count)
+  pub reported_there : (live : LiveUpload) → Live live ≡ state_undigested (upload_state by_reference s u) → (it : Upload) × (finmap.get s.uploads u ≡ Some it) × (live.row.count ≡ it.count)
   reported_there live is = go (finmap.get s.uploads u) (set.contains s.timed_out u) refl is
     where
-      go : (o : Option Staged) (b : Bool) → finmap.get s.uploads u ≡ o → Live live ≡ state_by o b → (it : Staged) × (finmap.get s.uploads u ≡ Some it) × (live.row.count ≡ it.count)
+      go : (o : Option Upload) (b : Bool) → finmap.get s.uploads u ≡ o → Live live ≡ state_by o b → (it : Upload) × (finmap.get s.uploads u ≡ Some it) × (live.row.count ≡ it.count)
       go None true at e = absurd (cc)
       go None false at e = absurd (cc)
       go (Some it) b at e = let same : live ≡ live_by it = cc in (it, at, ap (λ (l : LiveUpload). l.row.count) same)
 
   -- of one that comes in fewer
   pub lacks_beyond : (live : LiveUpload) → IsSound s → Live live ≡ state_undigested (upload_state by_reference s u) → (k : ℕ) → live.row.count < k → finmap.get (segments_at s.uploads u) k ≡ None
-  lacks_beyond live sound is k beyond = ap (λ o. finmap.get (option_map_or (λ (x : Staged). x.segments) o finmap.empty) k) it.1 ∙ go (finmap.get (it.0).segments k) refl
+  lacks_beyond live sound is k beyond = ap (λ o. finmap.get (option_map_or (λ (x : Upload). x.segments) o finmap.empty) k) it.1 ∙ go (finmap.get (it.0).segments k) refl
     where
-      it : (it : Staged) × (finmap.get s.uploads u ≡ Some it) × (live.row.count ≡ it.count)
+      it : (it : Upload) × (finmap.get s.uploads u ≡ Some it) × (live.row.count ≡ it.count)
       it = reported_there live is
 
       go : (o : Option (List ℕ)) → finmap.get (it.0).segments k ≡ o → o ≡ None

@@ -6,7 +6,7 @@ use Rattle.std.proofs.lemmas.Result.{IfOk-from_err}
 use Rattle.std.specs.FinMap as finmap
 use Rattle.sqlite.specs.Effect.{Database}
 use Rattle.sqlite.specs.State as db
-use Rattle.dep_types.specs.State.{State, File, Object, Upload as Staged}
+use Rattle.dep_types.specs.State.{State, File, Object, Upload}
 use Rattle.dep_types.specs.Maps.{Numbered}
 use Rattle.dep_types.specs.Rows.{file_row, object_row, upload_row}
 use Rattle.dep_types.specs.declared.rows.FileRow.{FileRow}
@@ -42,14 +42,14 @@ module _ {X Y Z : Type 0} (f : X → Y) (g : Y → Z) (z : Z) where
   some_shown (Some x) v e = let same : v ≡ f x = cc in ap g same
 
 module _ (s : State) (u : ℕ) where
-  at : (o : Option Staged) → finmap.get s.uploads u ≡ o → shown_at s (read_set.Upload u) ≡ option_map_or (λ it. shown.Upload (upload_row u it) (finmap.keys it.segments)) o shown.Nothing
-  at o is = ap (λ x. option_map_or (λ (it : Staged). shown.Upload (upload_row u it) (finmap.keys it.segments)) x shown.Nothing) is
+  at : (o : Option Upload) → finmap.get s.uploads u ≡ o → shown_at s (read_set.Upload u) ≡ option_map_or (λ it. shown.Upload (upload_row u it) (finmap.keys it.segments)) o shown.Nothing
+  at o is = ap (λ x. option_map_or (λ (it : Upload). shown.Upload (upload_row u it) (finmap.keys it.segments)) x shown.Nothing) is
 
   -- what became of an upload that isn't there
   pub no_upload_shown : (gone : FoundRow) → ((its : UploadRow) → by_row.Live its ≡ gone → ⊥) → found_row s u ≡ gone → shown.Nothing ≡ shown_at s (read_set.Upload u)
   no_upload_shown gone other h = go (finmap.get s.uploads u) refl h
     where
-      go : (o : Option Staged) → finmap.get s.uploads u ≡ o → option_map_or (λ it. by_row.Live (upload_row u it)) o (gone_row s u) ≡ gone → shown.Nothing ≡ shown_at s (read_set.Upload u)
+      go : (o : Option Upload) → finmap.get s.uploads u ≡ o → option_map_or (λ it. by_row.Live (upload_row u it)) o (gone_row s u) ≡ gone → shown.Nothing ≡ shown_at s (read_set.Upload u)
       go None is e = sym (at None is)
       go (Some it) is e = absurd (other (upload_row u it) e)
 

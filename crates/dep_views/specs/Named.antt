@@ -4,11 +4,11 @@ use Rattle.dep_types.specs.State.{State}
 use Rattle.dep_decisions.specs.Laws.{uploads_refusal}
 use Rattle.dep_decisions.specs.LookUps.{in_state}
 use Rattle.dep_operations.specs.Views.{upload_undigested}
-use Rattle.dep_views.specs.declared.named.Named.{Named}
-use Rattle.dep_views.specs.declared.named.Named.TheVariants.{Whole, Refused}
+use Rattle.dep_views.specs.declared.named.NamedUploads.{NamedUploads}
+use Rattle.dep_views.specs.declared.named.NamedUploads.TheVariants.{Whole, Refused}
 
 -- refused for the first that isn't there, or else for one that lacks a segment; or known, each in its place
-abbrev pub AreNamed : State → List ℕ → Named → Type 0
+abbrev pub AreNamed : State → List ℕ → NamedUploads → Type 0
 AreNamed s us (Refused r) = uploads_refusal (in_state s) us ≡ Some r
 AreNamed s us (Whole views) =
     (uploads_refusal (in_state s) us ≡ None) × (views ≡ map (upload_undigested true s) us)

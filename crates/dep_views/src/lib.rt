@@ -13,7 +13,7 @@ mod uploads;
 mod view;
 
 pub use digests::{hash_named, load_digests};
-pub use named::{Named, load_named};
+pub use named::{NamedUploads, load_named};
 pub use objects::load_object_view;
 pub use shown::load_shown;
 pub use view::{LoadedView, load_view};

@@ -19,7 +19,7 @@ use std::alloc::Global;
 
 /// The uploads that references name, or why they can't be deposited.
 #[derive(Drop)]
-pub enum Named {
+pub enum NamedUploads {
     /// Each is there, and lacks no segment: what is known of them, in their order.
     Whole(List<UploadView>),
     /// The first that isn't there refuses the deposit, or else one that lacks a segment.
@@ -76,7 +76,7 @@ pub fn load_named<T: Statements>(
     alloc: Global,
     running: &RunningHashes,
     uploads: &[u64],
-) -> Result<Named, StoreFault>
+) -> Result<NamedUploads, StoreFault>
     ensures map { MayFind T.lenders T.state tx.old tx.new result
         (λ s. IsTrue (T.state tx.old).is_open → IsSound s → AreRunning s running.now
         → IfOk result (AreNamed s uploads.now)) }
@@ -86,11 +86,11 @@ pub fn load_named<T: Statements>(
     while let Some((upload, behind)) = rest.split_first() {
         let state = load_state(tx, alloc, running, *upload)?;
         if let Some(refusal) = state_rule(&state) {
-            return Ok(Named::Refused(refusal));
+            return Ok(NamedUploads::Refused(refusal));
         }
         if let Some(refusal) = segments_rule(&state) {
             let missing = first_missing(tx, behind)?;
-            return Ok(Named::Refused(missing.unwrap_or(refusal)));
+            return Ok(NamedUploads::Refused(missing.unwrap_or(refusal)));
         }
         let view = UploadView {
             upload: *upload,
@@ -99,5 +99,5 @@ pub fn load_named<T: Statements>(
         views.push(view)?;
         rest = behind;
     }
-    Ok(Named::Whole(List::from_vec(views)))
+    Ok(NamedUploads::Whole(List::from_vec(views)))
 }

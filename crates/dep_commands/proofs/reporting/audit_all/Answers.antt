@@ -1,6 +1,6 @@
 use Rattle.std.proofs.Common.{◌∙◌, ◌++◌, ◌<◌, ℕ, List, Err, sym, ap, subst, arith}
 use Rattle.std.proofs.KnownBytes.{Appends-trans}
-use Rattle.dep_commands.specs.Audits.{IsWhole, outcome_of_audit}
+use Rattle.dep_commands.specs.Audits.{AuditIsWhole, outcome_of_audit}
 use Rattle.dep_program.specs.declared.outcome.Outcome.TheVariants.{Done, Damaged, StoreFault}
 use Rattle.dep_files.specs.Faults.{BlamesOutlet}
 use Rattle.dep_commands.specs.declared.audit_fault.AuditFault.TheVariants.{Writer}
@@ -35,7 +35,7 @@ returns-in-Ok g c =
       writes = (
         lines.0 ++ last.writes.0,
         Appends-trans (g.W.Outlet.taken c.args.out.now) (g.W.Outlet.taken c.report_objects.new.out) (g.W.Outlet.taken c.write_count.new.out) lines.0 last.writes.0 lines.1 last.writes.1,
-        λ clean t at. subst (λ (l : List ℕ). IsWhole t (lines.0 ++ l) Done) (sym last.writes.2)
+        λ clean t at. subst (λ (l : List ℕ). AuditIsWhole t (lines.0 ++ l) Done) (sym last.writes.2)
             (all_whole t lines.0 c.in-Ok-Some.tally (lines.2 clean t at) Done (ap outcome_of_audit (sym c.if-tally-eq0.true))),
       );
       stays = reported.stays;
@@ -52,7 +52,7 @@ returns-in-Ok-2 g c =
       writes = (
         lines.0 ++ last.writes.0,
         Appends-trans (g.W.Outlet.taken c.args.out.now) (g.W.Outlet.taken c.report_objects.new.out) (g.W.Outlet.taken c.write_count.new.out) lines.0 last.writes.0 lines.1 last.writes.1,
-        λ clean t at. subst (λ (l : List ℕ). IsWhole t (lines.0 ++ l) Damaged) (sym last.writes.2)
+        λ clean t at. subst (λ (l : List ℕ). AuditIsWhole t (lines.0 ++ l) Damaged) (sym last.writes.2)
             (all_whole t lines.0 c.in-Ok-Some.tally (lines.2 clean t at) Damaged (is_damaged c.in-Ok-Some.tally.damaged some)),
       );
       stays = reported.stays;

@@ -3,9 +3,9 @@ use Rattle.sqlite.specs.Held.{Held, state}
 use Rattle.sqlite.specs.State.{HasCleanDisk}
 use Rattle.dep_types.specs.Config.{IsChecked}
 use Rattle.dep_types.specs.State.{State, empty_state}
-use Rattle.dep_store.specs.HashingStores.{Keeps}
+use Rattle.dep_store.specs.HashingStores.{KeepsHashed}
 use Rattle.dep_store.specs.Migrating.{OpenLeaves}
-use Rattle.dep_schema.specs.States.{Represents}
+use Rattle.dep_schema.specs.States.{StoreRepresents}
 use Rattle.dep_schema.specs.declared.opening.OpenFault.{OpenFault}
 use Rattle.dep_exchange.specs.Records.{begins, first_world}
 use Rattle.dep_hub.specs.declared.faults.HubFault.{HubFault}
@@ -43,10 +43,10 @@ returns-in-Ok-hub_over g c =
     let begun = c.new.ensures in
     let honest_before : HasCleanDisk (state g.S.Store c.in-Ok-hub_over.hub.store.archive.store) → HasCleanDisk (state g.S.Store c.in-Ok.store) =
     subst (λ (h : Held _). HasCleanDisk (state g.S.Store h)) (ap (λ (a : HashingStore _). a.store) made.kept ∙ begun.store) in
-    let keeps : (s : State) → Represents (state g.S.Store c.in-Ok.store) s
-    → Keeps (state g.S.Store c.in-Ok-hub_over.hub.store.archive.store) c.in-Ok-hub_over.hub.store.archive.running s =
-    λ s at. subst (λ (a : HashingStore _). Keeps (state g.S.Store a.store) a.running s) (sym made.kept) (record {
-      represents = subst (λ (h : Held _). Represents (state g.S.Store h) s) (sym begun.store) at;
+    let keeps : (s : State) → StoreRepresents (state g.S.Store c.in-Ok.store) s
+    → KeepsHashed (state g.S.Store c.in-Ok-hub_over.hub.store.archive.store) c.in-Ok-hub_over.hub.store.archive.running s =
+    λ s at. subst (λ (a : HashingStore _). KeepsHashed (state g.S.Store a.store) a.running s) (sym made.kept) (record {
+      represents = subst (λ (h : Held _). StoreRepresents (state g.S.Store h) s) (sym begun.store) at;
       hashed = begun.running s;
     }) in
     record {
@@ -80,8 +80,8 @@ returns-in-Err-hub_over g c =
         checked,
         λ honest.
             let is_honest = subst (λ (h : Held _). HasCleanDisk (state g.S.Store h)) same honest in (
-              λ none. subst (λ (h : Held _). Represents (state g.S.Store h) empty_state) (sym same) (did.fresh is_honest none),
-              λ found left. subst (λ (h : Held _). Represents (state g.S.Store h) found) (sym same) (did.found is_honest found left),
+              λ none. subst (λ (h : Held _). StoreRepresents (state g.S.Store h) empty_state) (sym same) (did.fresh is_honest none),
+              λ found left. subst (λ (h : Held _). StoreRepresents (state g.S.Store h) found) (sym same) (did.found is_honest found left),
             ),
       );
       stop = opening_leaves c.args.config old (state g.S.Store c.close.result) (subst (λ (h : Held _). OpenLeaves old (state g.S.Store h)) (sym same) did.stop);

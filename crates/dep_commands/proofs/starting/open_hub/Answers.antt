@@ -5,7 +5,7 @@ use Rattle.dep_types.specs.Config.{IsChecked}
 use Rattle.dep_types.specs.State.{empty_state}
 use Rattle.dep_store.specs.Causes.{FailsToOpenTables}
 use Rattle.dep_store.specs.Migrating.{OpenLeaves}
-use Rattle.dep_schema.specs.States.{Represents}
+use Rattle.dep_schema.specs.States.{StoreRepresents}
 use Rattle.dep_exchange.specs.Records.{first_world}
 use Rattle.dep_schema.specs.declared.opening.OpenFault.{OpenFault}
 use Rattle.dep_hub.specs.declared.faults.HubFault.{HubFault}
@@ -55,11 +55,11 @@ returns-in-Ok-new g c =
     let same = ap (λ (a : HashingStore _). a.store) made.kept ∙ begun.store in
     record {
       fresh = λ honest none. made.represents empty_state (record {
-        represents = subst (λ (h : Held _). Represents (state g.S.Store h) empty_state) (sym begun.store) (did.fresh (subst (λ (h : Held _). HasCleanDisk (state g.S.Store h)) same honest) none);
+        represents = subst (λ (h : Held _). StoreRepresents (state g.S.Store h) empty_state) (sym begun.store) (did.fresh (subst (λ (h : Held _). HasCleanDisk (state g.S.Store h)) same honest) none);
         hashed = begun.running empty_state;
       });
       again = λ honest found left first records run. made.again first records (first_world found) run (λ n. refl) (record {
-        represents = subst (λ (h : Held _). Represents (state g.S.Store h) found) (sym begun.store) (did.found (subst (λ (h : Held _). HasCleanDisk (state g.S.Store h)) same honest) found left);
+        represents = subst (λ (h : Held _). StoreRepresents (state g.S.Store h) found) (sym begun.store) (did.found (subst (λ (h : Held _). HasCleanDisk (state g.S.Store h)) same honest) found left);
         hashed = begun.running found;
       });
       config = made.config;
@@ -96,8 +96,8 @@ returns-in-Err-new g c =
         checked,
         λ honest.
             let is_honest = subst (λ (h : Held _). HasCleanDisk (state g.S.Store h)) same honest in (
-              λ none. subst (λ (h : Held _). Represents (state g.S.Store h) empty_state) (sym same) (did.fresh is_honest none),
-              λ found left. subst (λ (h : Held _). Represents (state g.S.Store h) found) (sym same) (did.found is_honest found left),
+              λ none. subst (λ (h : Held _). StoreRepresents (state g.S.Store h) empty_state) (sym same) (did.fresh is_honest none),
+              λ found left. subst (λ (h : Held _). StoreRepresents (state g.S.Store h) found) (sym same) (did.found is_honest found left),
             ),
       );
       honest = λ honest. did.honest (subst (λ (h : Held _). HasCleanDisk (state g.S.Store h)) same honest);

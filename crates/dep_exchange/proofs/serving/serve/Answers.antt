@@ -1,7 +1,7 @@
 use Rattle.std.proofs.Common.{◌≢◌, refl, sym, ap, subst, ◌∙◌}
 use Rattle.dep_message.specs.Places.{Reading, place_with}
 use Rattle.dep_exchange.specs.Sending.{outside}
-use Rattle.dep_exchange.specs.Serving.{Progress, IsDeadIfShut, ServesOver, arrival_of}
+use Rattle.dep_exchange.specs.Serving.{ServedSoFar, IsDeadIfShut, ServesOver, arrival_of}
 use Rattle.dep_exchange.specs.declared.arrived.Arrived.TheVariants.{NoSuch}
 use Rattle.dep_exchange.proofs.ServingLemmas.{served_none, fed_dead, serves_gives_up}
 use Rattle.dep_exchange.proofs.NextLemmas.{answered_now, arrived_there, keeps_on, ends_dead, runs_out, served_on, serves_stop}
@@ -13,7 +13,7 @@ loop-init g c =
     let at = (outside (g.O.Outlet.taken c.args.out.now) (g.O.Outlet.failures c.args.out.now) (g.A.Archive.condition c.args.store.now)) in
     let e = c.in_default.ensures.ok in
     record {
-      served = subst (λ (r : Reading). Progress c.args.site.now (arrival_of c.args.intake.now c.args.piece.now.bytes.now c.args.piece.now.moment) at at r.place) (sym e) (served_none c.args.site.now (arrival_of c.args.intake.now c.args.piece.now.bytes.now c.args.piece.now.moment) at);
+      served = subst (λ (r : Reading). ServedSoFar c.args.site.now (arrival_of c.args.intake.now c.args.piece.now.bytes.now c.args.piece.now.moment) at at r.place) (sym e) (served_none c.args.site.now (arrival_of c.args.intake.now c.args.piece.now.bytes.now c.args.piece.now.moment) at);
       keeps = record {
         limit = ap (λ (r : Reading). r.limit) e;
         dead = λ dead. subst IsDeadIfShut (sym e) (fed_dead c.args.intake.now c.args.piece.now.bytes.now dead);

@@ -1,5 +1,5 @@
 use Rattle.std.proofs.Common.{◌≡◌, ℕ, ◌≤◌, List, length, take, map, sym, ap, arith, take_all, ◌∙◌}
-use Rattle.dep_types.specs.Sinks.{Entry}
+use Rattle.dep_types.specs.Sinks.{PathAndBytes}
 use Rattle.dep_types.specs.declared.rows.FileRow.{FileRow}
 use Rattle.dep_manifest.specs.Lengths.{in_64_bits}
 use Rattle.dep_manifest.specs.Manifest.{digest_by, manifest_of}
@@ -9,7 +9,7 @@ use Rattle.dep_manifest.proofs.ByPaths.{payload_length, rows_length}
 use Rattle.dep_manifest.proofs.lengths.payload_manifest_length.Goals as goal
 
 -- the length of all lines, once no row is left
-of_all : (a : Algorithm) (rows : List FileRow) (files : List Entry) (i n : ℕ) → length rows ≤ i → n ≡ in_64_bits (rows_length a (take i rows))
+of_all : (a : Algorithm) (rows : List FileRow) (files : List PathAndBytes) (i n : ℕ) → length rows ≤ i → n ≡ in_64_bits (rows_length a (take i rows))
     → map (λ file. file.0) files ≡ map row_path rows → n ≡ in_64_bits (length (manifest_of (digest_by a) files))
 of_all a rows files i n past so_far e =
     so_far ∙ ap (λ (rs : List FileRow). in_64_bits (rows_length a rs)) (take_all i rows past) ∙ ap in_64_bits (sym (payload_length a rows files e))

@@ -3,7 +3,7 @@ use Rattle.std.specs.Prelude.{IfSome}
 use Rattle.dep_types.specs.declared.refusal.Refusal.{Refusal}
 use Rattle.dep_fixity.specs.Fixity.{digests_of}
 use Rattle.dep_fixity.specs.declared.hasher.Digests.{Digests}
-use Rattle.dep_operations.specs.Checks.{IsChecked}
+use Rattle.dep_operations.specs.Checks.{IsCheckedBy}
 use Rattle.dep_operations.proofs.Checked.{content_reported, document_left, no_document, promised_are}
 use Rattle.dep_operations.proofs.order.check_content.Goals as goal
 
@@ -38,4 +38,4 @@ returns c =
     let op = c.args.operation.now in
     let left = document_left config c.args.view.now op (sym c.in_default.is ∙ c.fields_rule.ensures) (sym c.in_default-mismatch.is ∙ c.digest_rule-mismatch.ensures)
     (sym c.in_default-size_rule.is ∙ c.size_rule.ensures) in
-    subst (λ (m : Option Refusal). IfOk c.check_document.result (IsChecked m op)) left (c.check_document.ensures config)
+    subst (λ (m : Option Refusal). IfOk c.check_document.result (IsCheckedBy m op)) left (c.check_document.ensures config)

@@ -3,7 +3,7 @@ use Rattle.std.specs.List.{IsDistinct}
 use Rattle.std.specs.Str.{str_to_ascii_lowercase}
 use Rattle.dep_params.specs.Grammar.{AreParameters, NamedValue, DispositionValue}
 use Rattle.dep_params.specs.Failing.{ReportsRepeats}
-use Rattle.dep_params.specs.Reading.{Refuses, token_len}
+use Rattle.dep_params.specs.Reading.{RefusesParameters, token_len}
 use Rattle.dep_params.specs.Stored.{names_in, views}
 use Rattle.dep_params.specs.declared.disposition.ParamFault.TheVariants.{Malformed, Repeated}
 use Rattle.dep_params.specs.declared.disposition.Parameter.{Parameter}
@@ -26,7 +26,7 @@ returns-then-is_empty-clause-malformed c = λ h reading is.
 pub returns-in_err-parameters-clause-malformed : goal.returns-in_err-parameters-clause-malformed
 returns-in_err-parameters-clause-malformed c = λ h reading is.
     let same = err_is _ c.in_err-parameters.field-0.0 Malformed c.from_residual.ensures.1 h in
-    let refuses : Refuses c.split_token.result.1.now Malformed = subst (Refuses c.split_token.result.1.now) same c.in_err-parameters.ensures.refused in
+    let refuses : RefusesParameters c.split_token.result.1.now Malformed = subst (RefusesParameters c.split_token.result.1.now) same c.in_err-parameters.ensures.refused in
     refuses reading.parameters (subst (λ (t : List ℕ). AreParameters t reading.parameters) (sym c.split_token.ensures.rest) (split c.args.text.now reading is).parameters)
 
 pub returns-in_err-refuse_repeats-clause-repeated : goal.returns-in_err-refuse_repeats-clause-repeated

@@ -1,7 +1,7 @@
 use Rattle.std.proofs.Common.{◌≡◌, ◌∙◌, ℕ, List, [], ◌∷◌, ◌++◌, Some, None, Option, sym, ap, subst, arith, append_assoc, append-nil}
 use Rattle.std.proofs.lemmas.List.{map-append}
 use Rattle.dep_params.specs.Grammar.{AreParameters, NamedValue}
-use Rattle.dep_params.specs.Reading.{Fails, semicolon_read, parameter_read}
+use Rattle.dep_params.specs.Reading.{IsReadingFault, semicolon_read, parameter_read}
 use Rattle.dep_params.specs.Stored.{view, views}
 use Rattle.dep_params.proofs.Slots.{semicolon-shorter, parameter-shorter, parameters-end, parameters-empty, parameters-holds, empty-left, holds-left, refuses-semicolon, refuses-parameter, is_named, is_unnamed, refused_by, parameter-behind}
 use Rattle.dep_params.proofs.Values.{parameter_read-sound}
@@ -18,7 +18,7 @@ returns-in_err-parameter-clause-refused c =
     let after = c.in-Some.after.now in
     let found : semicolon_read rest ≡ Some (Some after) = rw c.in-Some.is at c.in_ok-after.ensures in
     let named = is_named after _ _ c.split_token.ensures.token c.is_empty.ensures c.if-not-is_empty.true in
-    let fails = subst (λ (o : Option (NamedValue × List ℕ)). Fails c.in_err-parameter.field-0.0 o) (parameter-behind after _ _ c.split_token.ensures.token c.split_token.ensures.rest) c.in_err-parameter.ensures in
+    let fails = subst (λ (o : Option (NamedValue × List ℕ)). IsReadingFault c.in_err-parameter.field-0.0 o) (parameter-behind after _ _ c.split_token.ensures.token c.split_token.ensures.rest) c.in_err-parameter.ensures in
     let refused = refuses-parameter c.args.text.now rest after c.in_err-parameter.field-0.0 c.loop-parameters.invariant.left found named fails in
     refused_by _ c.args.text.now c.in_err-parameter.field-0.0 c.from_residual-in_err-parameter.ensures.1 refused
 

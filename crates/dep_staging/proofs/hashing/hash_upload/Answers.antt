@@ -1,6 +1,6 @@
 use Rattle.std.proofs.Common.{◌≡◌, ◌∙◌, ℕ, List, subst}
 use Rattle.std.proofs.lemmas.Result.{IfOk-from_err}
-use Rattle.dep_fixity.specs.Fixity.{Holds, digests_of}
+use Rattle.dep_fixity.specs.Fixity.{HashesMessage, digests_of}
 use Rattle.dep_fixity.specs.declared.hasher.Hasher.{Hasher}
 use Rattle.dep_tables.specs.Clauses.{MayReadWithin}
 use Rattle.dep_tables.proofs.Chains.{may_err, may_ok}
@@ -36,7 +36,7 @@ returns g c = record {
         let run = c.hash_blocks-hashed.ensures.does.map is_open clean ours s are sound (c.take-run.ensures.taken s running).0 in (
           c.put.ensures s (c.take-run.ensures.others s running) run.0,
           digests_reported s c.args.row.now c.hash_blocks-hashed.new.run c.finish-digests.result sound run.0 (run.1 ∙ (c.take-run.ensures.taken s running).1) c.if-not-is_whole.false
-              (subst (λ (h : Hasher). (message : List ℕ) → Holds h message → c.finish-digests.result ≡ digests_of message) c.copied.ensures c.finish-digests.ensures),
+              (subst (λ (h : Hasher). (message : List ℕ) → HashesMessage h message → c.finish-digests.result ≡ digests_of message) c.copied.ensures c.finish-digests.ensures),
         );
     keeps = may_ok (subst (MayReadWithin g.T.Statements.lenders g.T.Statements.state c.args.tx.now c.hash_blocks-hashed.new.tx) c.in_ok-hashed.was c.hash_blocks-hashed.ensures.does.keeps);
   };

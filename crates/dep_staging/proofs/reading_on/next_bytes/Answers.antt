@@ -6,7 +6,7 @@ use Rattle.dep_tables.proofs.Chains.{may_ok, may_read, may_then}
 use Rattle.dep_files.proofs.Behind.{behind_any}
 use Rattle.dep_files.proofs.FileCalls.{file_is}
 use Rattle.dep_staging.specs.FileBlocks.{part_of}
-use Rattle.dep_staging.specs.NextBytes.{Counts, Fronts, IsNext}
+use Rattle.dep_staging.specs.NextBytes.{Counts, Fronts, AreNextBytes}
 use Rattle.dep_staging.proofs.NextBytes.{cut_by_first, first_next, is_next, none_if, none_next, some_if}
 use Rattle.dep_staging.proofs.reading_on.next_bytes.Goals as goal
 
@@ -29,7 +29,7 @@ returns-then-size-eq0 g c = record {
         let mid = behind_any c.in_ok-first.ensures.does.keeps c.in_ok-size.ensures.does.keeps.stays is_open clean ours s are in
         let counts = subst (λ (t : Tables). Counts t s c.args.file c.in_ok-size.size) mid.tables (c.in_ok-size.ensures.does.map clean mid.ours s mid.are) are in
         let has = are.common.files_parts.of_files object c.args.file its (file_is s object c.args.file ∙ held) in
-        subst (IsNext its.content c.args.start) (sym (none_if c.in_ok-first.first.items _ c.is_empty.result c.is_empty.ensures c.if-not-is_empty.false c.in_ok-first.first.ok.0))
+        subst (AreNextBytes its.content c.args.start) (sym (none_if c.in_ok-first.first.items _ c.is_empty.result c.is_empty.ensures c.if-not-is_empty.false c.in_ok-first.first.ok.0))
         (none_next (are.common.parts (owner.File c.args.file)) its.content has.size has.some has.cut c.args.start (omega (arith, counts, c.if-size-eq0.true)));
     keeps = may_ok (may_then c.in_ok-first.ensures.does.keeps (may_read c.in_ok-size.ensures.does.keeps));
   };

@@ -9,7 +9,7 @@ use Rattle.dep_row_maps.specs.TablesAre.{TablesAre}
 use Rattle.dep_files.proofs.Stills.{still_left}
 use Rattle.dep_files.proofs.Streams.{streamed, IsSized}
 use Rattle.dep_types.specs.State.{State}
-use Rattle.dep_schema.specs.States.{Represents}
+use Rattle.dep_schema.specs.States.{StoreRepresents}
 use Rattle.dep_schema.proofs.Transacting.{leaves_still}
 use Rattle.dep_store.proofs.Carrying.{ok_unchanged, err_kept}
 use Rattle.dep_store.proofs.ShutLemmas.{back_on_ok, fails_still, open_still, state_back, was_open_then}
@@ -69,7 +69,7 @@ returns g c =
     let sent = c.stream_content.ensures.streams in
     let opened = λ (clean : HasCleanDisk new). c.in_ok-check_open.ensures.opened (reads.stays.honest clean) in
     let clean_now = clean_if_open (g.S.Store.view store) (g.met.S.Store.shut_if_dirty store) in
-    let now = λ (clean : HasCleanDisk new) (s : State) (at : Represents old s). state_back old mid s restored.back (opened clean) at in
+    let now = λ (clean : HasCleanDisk new) (s : State) (at : StoreRepresents old s). state_back old mid s restored.back (opened clean) at in
     record {
       sends = record {
         streams = (

@@ -3,7 +3,7 @@ use Rattle.std.proofs.KnownBytes.{Appends-nil}
 use Rattle.sqlite.specs.State.{HasCleanDisk}
 use Rattle.sqlite.specs.Held.{state}
 use Rattle.dep_types.specs.State.{State}
-use Rattle.dep_schema.specs.States.{Represents}
+use Rattle.dep_schema.specs.States.{StoreRepresents}
 use Rattle.dep_staging.specs.NextBytes.{IsNextIn}
 use Rattle.dep_store.proofs.SentOn.{Comes, all_sent, keeps_open, none_taken, restored_then, stays_open, streams_on, takes_few}
 use Rattle.dep_store.proofs.Begun.{sends_not}
@@ -62,7 +62,7 @@ returns g c =
     let start = c.args.place.start in
     let restored = restored_then old mid new found.finds.restored read.finds.restored in
     let opened = read.finds.opened in
-    let comes = λ (clean : HasCleanDisk new) (s : State) (represents : Represents old s).
+    let comes = λ (clean : HasCleanDisk new) (s : State) (represents : StoreRepresents old s).
     let before = honest_back mid new read.finds.restored.survives clean in
     let next = read.reports clean s (state_back old mid s found.finds.restored.back (found.finds.opened before) represents) in
     let both : Comes s it start c.in_ok-size.size c.as_slice.result.now = (found.reports before s represents, subst (IsNextIn s it.file start) (sym c.as_slice.ensures.value) next) in

@@ -1,10 +1,10 @@
 use Rattle.std.proofs.Common.{◌≡◌, ◌+◌}
-use Rattle.dep_host.specs.Hosting.{Stays, position}
+use Rattle.dep_host.specs.Hosting.{HostStays, position}
 use Rattle.dep_host.proofs.host.Host.draw_in.Given as goal
 
 abbrev pub invariant-loop : goal.invariant-loop
 invariant-loop g l = record {
   counted : l.self.end + l.counter ≡ l.end;
   same : position l.self ≡ position l.fn.self;
-  stays : Stays l.fn.self l.self;
+  stays : HostStays l.fn.self l.self;
 }

@@ -3,7 +3,7 @@ use Rattle.dep_slot.specs.Causes.{causes_of}
 use Rattle.dep_host.specs.declared.ending.Shut.{Shut}
 use Rattle.dep_slot.specs.declared.limits.Limits.{Limits}
 use Rattle.dep_host.specs.declared.share.Share.{Share}
-use Rattle.dep_host.specs.Hosting.{GoesRound, HasTime, IsWaiting, Position, Serves, position, slot_at}
+use Rattle.dep_host.specs.Hosting.{GoesRound, HasTime, HasNothingToDo, Position, ServesSlot, position, slot_at}
 use Rattle.dep_host.proofs.HostLemmas.{each_goes_on, each_evicts, neither, stays_same, stays_on}
 use Rattle.dep_host.proofs.ShareLemmas.{counted_first}
 use Rattle.dep_host.proofs.WholeRounds.{room_for, round_begins, round_goes_on, round_ends}
@@ -21,14 +21,14 @@ loop-at-init g c = record {
 pub loop-at-preserved : goal.loop-at-preserved
 loop-at-preserved g c = record {
   goes = round_goes_on g.A.Archive.condition g.R.Source.unread g.K.Sink.taken g.S.Spool.held g.S.Spool.size (causes_of g.R.Source.halts g.K.Sink.halts g.S.Spool.failures) _ _ _ _ _ _ _ _ _ _ _ _ _ c.loop-at.invariant.goes
-      (subst (λ (b : Bool). Serves g.A.Archive.condition g.R.Source.unread g.K.Sink.taken g.S.Spool.held g.S.Spool.size (causes_of g.R.Source.halts g.K.Sink.halts g.S.Spool.failures) (position c.loop-at.self) (position c.serve_at-served.new.self) c.loop-at.at c.args.time.now c.is_full-is_full.result b c.serve_at-served.result.has_sent (g.L.HostLog.notes c.loop-at.log) (g.L.HostLog.notes c.serve_at-served.new.log)) c.is_turn.ensures c.serve_at-served.ensures.goes)
+      (subst (λ (b : Bool). ServesSlot g.A.Archive.condition g.R.Source.unread g.K.Sink.taken g.S.Spool.held g.S.Spool.size (causes_of g.R.Source.halts g.K.Sink.halts g.S.Spool.failures) (position c.loop-at.self) (position c.serve_at-served.new.self) c.loop-at.at c.args.time.now c.is_full-is_full.result b c.serve_at-served.result.has_sent (g.L.HostLog.notes c.loop-at.log) (g.L.HostLog.notes c.serve_at-served.new.log)) c.is_turn.ensures c.serve_at-served.ensures.goes)
       c.count.ensures c.serve_at-served.ensures.others refl c.loop-at.invariant.stays.shut;
   left = each_goes_on (HasTime c.args.time.now.second c.args.self.now.limits) _ _ _ _ c.loop-at.invariant.left
       (subst (λ (n : Limits). HasTime c.args.time.now.second n (slot_at c.loop-at.at c.serve_at-served.new.self.slots.items)) (c.serve_at-served.ensures.stays.limits ∙ c.loop-at.invariant.stays.limits) c.serve_at-served.ensures.here)
       c.serve_at-served.ensures.others refl;
   waits = λ idle.
       let both = neither c.loop-at.is_busy c.serve_at-served.result.is_busy idle in
-      each_goes_on (IsWaiting g.S.Spool.size) _ _ _ _ (c.loop-at.invariant.waits both.0) (c.serve_at-served.ensures.waits both.1)
+      each_goes_on (HasNothingToDo g.S.Spool.size) _ _ _ _ (c.loop-at.invariant.waits both.0) (c.serve_at-served.ensures.waits both.1)
       c.serve_at-served.ensures.others refl;
   stays = stays_on _ _ _ c.loop-at.invariant.stays c.serve_at-served.ensures.stays;
   first = ap (λ (s : Share). s.first) c.count.ensures ∙ (counted_first c.loop-at.share c.loop-at.at c.serve_at-served.result.has_sent ∙ c.loop-at.invariant.first);
@@ -62,5 +62,5 @@ returns-clause-stays g c = record {
 }
 
 pub returns-clause-waits : goal.returns-clause-waits
-returns-clause-waits g c = λ idle. subst (λ (q : Position _ _ _ _). (at : ℕ) → IsWaiting g.S.Spool.size (slot_at at q.slots)) (sym c.draw_in.ensures.0)
-    (each_evicts (IsWaiting g.S.Spool.size) _ _ c.loop-at.at tt (λ place h. c.loop-at.invariant.goes.stays place h ∙ c.args.self.now.free place (omega (arith, h))) (c.loop-at.invariant.waits idle) c.evict_largest.ensures.left)
+returns-clause-waits g c = λ idle. subst (λ (q : Position _ _ _ _). (at : ℕ) → HasNothingToDo g.S.Spool.size (slot_at at q.slots)) (sym c.draw_in.ensures.0)
+    (each_evicts (HasNothingToDo g.S.Spool.size) _ _ c.loop-at.at tt (λ place h. c.loop-at.invariant.goes.stays place h ∙ c.args.self.now.free place (omega (arith, h))) (c.loop-at.invariant.waits idle) c.evict_largest.ensures.left)

@@ -2,7 +2,7 @@ use Rattle.std.proofs.Common.{Option, None, Some, refl, sym, subst, ◌∙◌, a
 use Rattle.std.proofs.Math.ListN.{length-set}
 use Rattle.dep_slot.specs.Causes.{causes_of}
 use Rattle.dep_slot.specs.declared.slot.Slot.{Slot}
-use Rattle.dep_host.specs.Hosting.{HasTime, IsWaiting}
+use Rattle.dep_host.specs.Hosting.{HasTime, HasNothingToDo}
 use Rattle.std.proofs.lemmas.List.{get_or-set_same, get_or-set_other}
 use Rattle.dep_host.proofs.HostLemmas.{within_still, free_once_left, free_where_sat, slot_read, closes_there, stays_on, stays_set}
 use Rattle.dep_host.proofs.ServeLemmas.{served, served_none, closes_served}
@@ -54,7 +54,7 @@ pub returns-in_default-clause-here : goal.returns-in_default-clause-here
 returns-in_default-clause-here g c = subst (λ (o : Option (Slot _ _ _)). HasTime c.args.turn.now.time.second c.args.self.now.limits o) (sym (get_or-set_same _ c.args.at _ None c.requires.there ∙ c.in_default.is)) tt
 
 pub returns-in_default-clause-waits : goal.returns-in_default-clause-waits
-returns-in_default-clause-waits g c = λ idle. subst (λ (o : Option (Slot _ _ _)). IsWaiting g.S.Spool.size o) (sym (get_or-set_same _ c.args.at _ None c.requires.there ∙ c.in_default.is)) tt
+returns-in_default-clause-waits g c = λ idle. subst (λ (o : Option (Slot _ _ _)). HasNothingToDo g.S.Spool.size o) (sym (get_or-set_same _ c.args.at _ None c.requires.there ∙ c.in_default.is)) tt
 
 pub returns-in_default-clause-others : goal.returns-in_default-clause-others
 returns-in_default-clause-others g c = λ place ne. get_or-set_other _ c.args.at place _ None ne
@@ -66,10 +66,10 @@ pub returns-in-Some-closing-clause-here : goal.returns-in-Some-closing-clause-he
 returns-in-Some-closing-clause-here g c = subst (λ (o : Option (Slot _ _ _)). HasTime c.args.turn.now.time.second c.close.new.self.limits o) (sym c.close.ensures.goes.gone) tt
 
 pub returns-in-Some-closing-clause-waits : goal.returns-in-Some-closing-clause-waits
-returns-in-Some-closing-clause-waits g c = λ idle. subst (λ (o : Option (Slot _ _ _)). IsWaiting g.S.Spool.size o) (sym c.close.ensures.goes.gone) tt
+returns-in-Some-closing-clause-waits g c = λ idle. subst (λ (o : Option (Slot _ _ _)). HasNothingToDo g.S.Spool.size o) (sym c.close.ensures.goes.gone) tt
 
 pub returns-clause-waits : goal.returns-clause-waits
-returns-clause-waits g c = λ idle. subst (λ (o : Option (Slot _ _ _)). IsWaiting g.S.Spool.size o) (sym (get_or-set_same _ c.args.at _ None c.requires.there)) (c.take_turn-outcome.ensures.waits idle)
+returns-clause-waits g c = λ idle. subst (λ (o : Option (Slot _ _ _)). HasNothingToDo g.S.Spool.size o) (sym (get_or-set_same _ c.args.at _ None c.requires.there)) (c.take_turn-outcome.ensures.waits idle)
 
 pub invariant_of-self : goal.invariant_of-self
 invariant_of-self g c = record {

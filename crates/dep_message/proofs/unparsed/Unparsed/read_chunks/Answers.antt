@@ -1,6 +1,6 @@
 use Rattle.std.proofs.Common.{List, ℕ, ◌∙◌, ◌++◌, sym, ap, subst, refl}
 use Rattle.dep_message.specs.Stream.{IsRequestText}
-use Rattle.dep_message.specs.Working.{Keeps, ReadsChunks, first_found}
+use Rattle.dep_message.specs.Working.{KeepsBytes, ReadsChunks, first_found}
 use Rattle.dep_message.specs.declared.message.Message.{Message}
 use Rattle.dep_message.specs.declared.progress.Found.TheVariants as F
 use Rattle.dep_message.specs.declared.progress.Progress.TheVariants.{Chunked}
@@ -14,7 +14,7 @@ returns-in-Err c =
     let w = c.args.self.now in
     let r = c.args.request in
     let on : ReadsChunks w.limit w.continued (record r { reader = c.feed.new.self }) = rw c.in-Err.ensures.err c.requires.known in (
-      subst (λ (new : Unparsed). Keeps w.limit w.continued (r.used.items ++ w.buffer) new) (sym c.keep_place.ensures) (keeps_chunked w _ on),
+      subst (λ (new : Unparsed). KeepsBytes w.limit w.continued (r.used.items ++ w.buffer) new) (sym c.keep_place.ensures) (keeps_chunked w _ on),
       used_bytes w.limit w.continued r w.buffer c.requires.known,
     )
 
@@ -31,7 +31,7 @@ returns-in-Ok-More c =
     let on = reads_on w.limit w.continued r piece c.feed.new.self c.and-request.result reads c.and-request.ensures fed.limit (fed.fed reads.fed reads.has_fed) part in
     let all = c.and-request.ensures ∙ ap (λ l. r.used.items ++ l) same in
     let new_is = c.keep_place-in-Ok-More.ensures ∙ ap (λ (b : List ℕ). record w { buffer = b; progress = Chunked (record r { reader = c.feed.new.self; used = c.and-request.result }) }) c.clear.ensures in (
-      subst (λ (new : Unparsed). Keeps w.limit w.continued (r.used.items ++ w.buffer) new) (sym new_is) (keeps_used w _ (r.used.items ++ w.buffer) on all),
+      subst (λ (new : Unparsed). KeepsBytes w.limit w.continued (r.used.items ++ w.buffer) new) (sym new_is) (keeps_used w _ (r.used.items ++ w.buffer) on all),
       rw (ap (λ w. w.progress) new_is) (waits_on w.limit w.continued r piece w.buffer reads same c.feed.new.self.limit c.feed.new.self.content (fed.limit ∙ reads.limit_is) reported),
     )
 

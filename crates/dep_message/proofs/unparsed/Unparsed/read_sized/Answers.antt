@@ -1,5 +1,5 @@
 use Rattle.std.proofs.Common.{List, ℕ, arith, sym, ap, subst, ◌∙◌, ◌<◌, ◌++◌, length, take, drop}
-use Rattle.dep_message.specs.Working.{Keeps, first_found}
+use Rattle.dep_message.specs.Working.{KeepsBytes, first_found}
 use Rattle.dep_message.specs.declared.message.Message.{Message}
 use Rattle.dep_message.specs.declared.progress.Found.TheVariants as F
 use Rattle.dep_message.specs.declared.progress.Progress.TheVariants.{Sized}
@@ -13,7 +13,7 @@ returns-then-as_slice-request c =
     let w = c.args.self.now in
     let r = c.args.request in
     let less : length r.behind < r.length = omega (arith, ap length c.as_slice.ensures, c.if-as_slice-request.true) in (
-      subst (λ (new : Unparsed). Keeps w.limit w.continued (r.used.items ++ r.behind) new) (sym c.keep_place.ensures) (keeps_sized w r c.requires.known),
+      subst (λ (new : Unparsed). KeepsBytes w.limit w.continued (r.used.items ++ r.behind) new) (sym c.keep_place.ensures) (keeps_sized w r c.requires.known),
       rw (ap (λ w. w.progress) c.keep_place.ensures) (waits_for_body w.limit w.continued r.used.items r.behind r.head _ c.requires.known.1 less),
     )
 
@@ -21,7 +21,7 @@ pub returns-in-Err : goal.returns-in-Err
 returns-in-Err c =
     let w = c.args.self.now in
     let r = c.args.request in (
-      subst (λ (new : Unparsed). Keeps w.limit w.continued (r.used.items ++ r.behind) new)
+      subst (λ (new : Unparsed). KeepsBytes w.limit w.continued (r.used.items ++ r.behind) new)
           (sym (c.keep_place-in-Err.ensures ∙ ap (λ (b : List ℕ). record w { buffer = b; progress = Sized r }) c.in-Err.ensures.err)) (keeps_sized w r c.requires.known),
       begins_with_head w.limit w.continued r.used.items r.behind r.head _ c.requires.known.1,
     )

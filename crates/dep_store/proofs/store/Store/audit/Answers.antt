@@ -1,7 +1,7 @@
 use Rattle.sqlite.specs.Held.{state}
 use Rattle.sqlite.proofs.StateLemmas.{clean_if_open}
 use Rattle.dep_files.specs.Fixity.{IsAudited}
-use Rattle.dep_store.specs.Shut.{FailsIfShut}
+use Rattle.dep_store.specs.Shut.{StoreFailsIfShut}
 use Rattle.dep_store.specs.Staying.{ReportsTables}
 use Rattle.dep_store.proofs.Carrying.{ok_reported}
 use Rattle.dep_store.proofs.Migrated.{tables_kept}
@@ -27,7 +27,7 @@ returns g c =
       was_open = λ is_open. reads.stays.was_open (clean_now is_open) is_open;
       stop = λ clean t at. left_still old new t (λ trees h. g.met.S.Store.settled first.store trees at.is_open h) at reads.stays.survives clean;
     } in
-    let shut : FailsIfShut old new result = record {
+    let shut : StoreFailsIfShut old new result = record {
       opened = λ clean. ok_then result (reads.same clean) (λ same. same.0.was_open);
       left = leaves_no_more old new reads.stays.survives;
     } in

@@ -21,7 +21,7 @@ use Rattle.dep_requests.specs.declared.caching.Cache.{Cache}
 use Rattle.dep_requests.proofs.CacheLemmas.{known_still}
 use Rattle.dep_store.proofs.Cache.{forgotten, service_made}
 use Rattle.dep_store.proofs.Tries.{back_as_was, busy_tries, busy_fails, tries_over}
-use Rattle.dep_store.specs.Shut.{FailsIfShut}
+use Rattle.dep_store.specs.Shut.{StoreFailsIfShut}
 use Rattle.dep_store.proofs.KnownFiles.{performs, shows_file}
 use Rattle.dep_store.proofs.ShutLemmas.{fails_still, was_open_then}
 use Rattle.dep_store.proofs.store.Store.perform.Goals as goal
@@ -51,7 +51,7 @@ returns-in-Some g c =
     let was_open = c.self.invariant.1 c.in-Some.it reported.0 in
     let between : d.in_transaction ≡ false = search rules in
     let back : IsGivenBack d d = back_as_was d was_open between in
-    let shut : FailsIfShut d d result = was_open_then d d _ was_open in
+    let shut : StoreFailsIfShut d d result = was_open_then d d _ was_open in
     record {
       does = tries_over _ _ result (Made config op) _ (ready config op) (next config op) (λ s its t p after made means. made its.0 s means) (rw c.self.view_is at still);
       unchanged = λ clean s given running nothing. if_ok result (rw c.self.view_is at back);
@@ -71,7 +71,7 @@ returns-in_err-check_open g c =
     let is_err = c.from_residual-in_err-check_open.ensures.0 in
     let restored = c.check_open.ensures.restored in
     let back : Transacts old new result (Made config op) = fails_back old new result _ is_err (λ is_open trees h. g.met.S.Store.settled first.store trees is_open h) restored.back restored.survives in
-    let shut : FailsIfShut old new result = fails_still old new result is_err restored.survives in
+    let shut : StoreFailsIfShut old new result = fails_still old new result is_err restored.survives in
     record {
       does = tries_over _ _ result (Made config op) _ (ready config op) (next config op) (λ s its t p after made means. made its.0 s means) (rw c.self.view_is at back);
       unchanged = λ clean s given running nothing. IfOk-from_err result _ is_err;
@@ -93,7 +93,7 @@ returns-in_err-done g c =
     (clean_if_open (g.S.Store.view mid.store) (g.met.S.Store.shut_if_dirty mid.store)) c.in_ok-check_open.ensures asked.running
     (shows_file _ _ config op _ asked.plain) asked.transacts asked.changes asked.back in
     let did = tries_over (state g.S.Store c.args.self.now) new _ _ _ (done_ready config op) (next config op) (λ s its t p after made means. made its.0 s means its.1) (rw c.self.view_is at done.transacts) in
-    let shut : FailsIfShut (state g.S.Store first) new result = record {
+    let shut : StoreFailsIfShut (state g.S.Store first) new result = record {
       opened = λ clean. IfOk-from_err result (λ _. IsTrue (state g.S.Store first).is_open) is_err;
       left = done.shut.left;
     } in

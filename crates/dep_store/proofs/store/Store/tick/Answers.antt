@@ -5,7 +5,7 @@ use Rattle.dep_types.specs.Limits.{greatest_moment}
 use Rattle.dep_types.specs.declared.store_fault.StoreFault.{StoreFault}
 use Rattle.dep_schema.specs.Transactions.{Transacts}
 use Rattle.dep_schema.proofs.Transacting.{unmoved, after_back, fails_back}
-use Rattle.dep_store.specs.Shut.{FailsIfShut}
+use Rattle.dep_store.specs.Shut.{StoreFailsIfShut}
 use Rattle.dep_requests.proofs.CacheLemmas.{none_is}
 use Rattle.dep_store.proofs.Cache.{clock_made, forgotten}
 use Rattle.dep_store.proofs.ShutLemmas.{fails_still, was_open_then}
@@ -24,7 +24,7 @@ returns-in-Some g c =
     let still : Transacts d d shown (Clocked config c.secs-secs.result) = unmoved d _ _ (λ is_open trees h. g.met.S.Store.settled c.self.inside.connection.store trees is_open h)
     (λ t represents. clock_made d t config c.secs-secs.result its.0 c.new-shown.result represents (λ s at. (c.self.invariant.0 its.0 its.1 s at, its.3, sym its.4))
     (c.new-shown.ensures ∙ ap (λ (n : ℕ). min n greatest_moment) its.2)) in
-    let shut : FailsIfShut d d shown = was_open_then d d _ (c.self.invariant.1 its.0 its.1) in
+    let shut : StoreFailsIfShut d d shown = was_open_then d d _ (c.self.invariant.1 its.0 its.1) in
     record {
       does = ticks_over _ _ _ config _ _ c.secs-secs.ensures.seconds (rw c.self.view_is at still);
       shut = rw c.self.view_is at shut;
@@ -38,7 +38,7 @@ returns-in_err-found g c =
     let result = c.from_residual-in_err-found.result in
     let is_err = c.from_residual-in_err-found.ensures.0 in
     let back : Transacts old new result (Clocked c.args.config.now c.secs-secs.result) = fails_back old new result _ is_err (λ is_open trees h. g.met.S.Store.settled c.self.inside.connection.store trees is_open h) restored.back restored.survives in
-    let shut : FailsIfShut old new result = fails_still old new result is_err restored.survives in
+    let shut : StoreFailsIfShut old new result = fails_still old new result is_err restored.survives in
     record {
       does = ticks_over _ _ _ c.args.config.now _ _ c.secs-secs.ensures.seconds (rw c.self.view_is at back);
       shut = rw c.self.view_is at shut;
@@ -57,7 +57,7 @@ returns-in-Some-found g c =
     (clean_if_open (g.S.Store.view store) (g.met.S.Store.shut_if_dirty store)) restored.back restored.survives looked.finds.opened
     (unmoved mid _ _ (λ is_open trees h. g.met.S.Store.settled store trees is_open h)
     (λ t represents. clock_made mid t config c.secs-secs.result c.in-Some-found.it c.new-reported.result represents (λ s at. looked.is_cache s at c.in-Some-found.it c.in-Some-found.is) c.new-reported.ensures)) in
-    let shut : FailsIfShut old mid shown = was_open_then old mid _ (λ clean. (restored.back (looked.finds.opened clean)).0) in
+    let shut : StoreFailsIfShut old mid shown = was_open_then old mid _ (λ clean. (restored.back (looked.finds.opened clean)).0) in
     record {
       does = ticks_over _ _ _ config _ _ c.secs-secs.ensures.seconds (rw c.self.view_is at moved);
       shut = rw c.self.view_is at shut;
@@ -72,7 +72,7 @@ returns-in-None g c =
     let finds = c.in_ok-found.ensures.finds in
     let moved : Transacts old new c.transact.result (Clocked c.args.config.now c.secs-secs.result) = after_back old mid new _ _ (λ is_open trees h. g.met.S.Store.settled c.self.inside.connection.store trees is_open h)
     (clean_if_open (g.S.Store.view store) (g.met.S.Store.shut_if_dirty store)) finds.restored.back finds.restored.survives finds.opened c.transact.ensures.transacts in
-    let shut : FailsIfShut old new c.transact.result = was_open_then old new c.transact.result
+    let shut : StoreFailsIfShut old new c.transact.result = was_open_then old new c.transact.result
     (λ clean. (finds.restored.back (finds.opened (c.transact.ensures.transacts.honest clean))).0) in
     record {
       does = ticks_over _ _ _ c.args.config.now _ _ c.secs-secs.ensures.seconds (rw c.self.view_is at moved);
