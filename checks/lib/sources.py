@@ -12,6 +12,8 @@ PUBLIC_TRAIT = re.compile(r"(?m)^[ \t]*pub trait [^{;]*\{")
 CLAUSE = re.compile(r"\b(?:requires|ensures)\b[\s*]*\w*\s*$")
 INVARIANT = re.compile(r"\binvariant = \{")
 USE = re.compile(r"\bghost use Rattle\.(\w+)\.specs\.([\w.]+)\.\{([^}]*)\};", re.S)
+# A type or a trait of any kind, private ones too.
+OWN_TYPE = re.compile(r"(?m)^[ \t]*(?:pub(?:\([^)]*\))? )?(?:struct|enum|trait|union) (\w+)")
 DEFINITION = re.compile(r"^(?:abbrev |unfoldable )?pub (?:record |data )?(?!mod |use )(\S+)|^ +(?:abbrev |unfoldable )pub (\S+)")
 
 
@@ -154,4 +156,15 @@ def definitions_of(text):
             end = next((it for it in range(at, len(lines)) if not lines[it].strip()), len(lines))
             has_comment = at > 0 and lines[at - 1].lstrip().startswith("--")
             found.append(Definition(at + 1, begun[1] or begun[2], in_one_line(" ".join(lines[at:end])), has_comment))
+    return found
+
+
+def crates_of_names(texts):
+    """Where the types, traits and definitions of sources stand, given as texts by their paths crates/NAME/..: the crates of each
+    name."""
+    found = {}
+    for path, text in texts.items():
+        names = OWN_TYPE.findall(text) if path.endswith(".rt") else [it.name for it in definitions_of(text)]
+        for name in names:
+            found.setdefault(name, set()).add(path.split("/")[1])
     return found
