@@ -20,7 +20,7 @@ use Rattle.dep_exchange.specs.Records.{Record, Run, stops, stopped, first_world}
 use Rattle.dep_exchange.specs.Records as records_of
 use Rattle.dep_hub.specs.declared.hub.Hub.{Hub}
 use Rattle.dep_slot.specs.Causes.{Causes}
-use Rattle.dep_host.specs.Hosting.{HostAction}
+use Rattle.dep_host.specs.Actions.{HostAction}
 use Rattle.dep_host.specs.Runs.{RepresentsBehind}
 use Rattle.dep_host.specs.Runs as runs
 use Rattle.dep_program.specs.declared.outcome.Outcome.{Outcome}

@@ -18,7 +18,7 @@ use Rattle.dep_commands.specs.Reserved.{reserved_call_log, reserved_condition}
 use Rattle.dep_exchange.specs.Records.{World, Record, Run, first_world, stopped}
 use Rattle.dep_hub.specs.declared.hub.Hub.{Hub}
 use Rattle.dep_slot.specs.Causes.{Causes}
-use Rattle.dep_host.specs.Hosting.{HostAction}
+use Rattle.dep_host.specs.Actions.{HostAction}
 use Rattle.dep_host.specs.Runs.{Follows}
 use Rattle.dep_slot.specs.Notes.{Note}
 use Rattle.dep_slot.specs.declared.limits.Limits.{Limits as Bounds}

@@ -34,53 +34,36 @@ impl ConfigurationField {
     /// What the field is for, and what is taken where it isn't given.
     pub fn explanation(self) -> &'static str {
         match self {
-            ConfigurationField::Address => "the IP address to listen at; 127.0.0.1 by default",
-            ConfigurationField::Port => "the TCP port to listen at; 8080 by default",
-            ConfigurationField::Database =>
-                "the file of the database, which is made where it isn't there",
-            ConfigurationField::SpoolFolder => "the folder for what is to be sent to slow clients",
-            ConfigurationField::StopFile => {
-                "the file whose being there tells the server to stop; empty for none, as by default"
-            }
-            ConfigurationField::Base =>
-                "what all URLs of the server begin with, as clients see them",
-            ConfigurationField::Title => "the title in the service document; swordd by default",
-            ConfigurationField::Abstract =>
-                "the abstract in the service document; Deposit service by default",
-            ConfigurationField::Depositor =>
-                "the name under which files are deposited; depositor by default",
-            ConfigurationField::OnBehalfOf =>
+            Self::Address => "the IP address to listen at; 127.0.0.1 by default",
+            Self::Port => "the TCP port to listen at; 8080 by default",
+            Self::Database => "the file of the database, which is made where it isn't there",
+            Self::SpoolFolder => "the folder for what is to be sent to slow clients",
+            Self::StopFile =>
+                "the file whose being there tells the server to stop; empty for none, as by default",
+            Self::Base => "what all URLs of the server begin with, as clients see them",
+            Self::Title => "the title in the service document; swordd by default",
+            Self::Abstract => "the abstract in the service document; Deposit service by default",
+            Self::Depositor => "the name under which files are deposited; depositor by default",
+            Self::OnBehalfOf =>
                 "whether requests may be made on behalf of others; false by default",
-            ConfigurationField::RequireIfMatch =>
-                "whether changes have to send If-Match; false by default",
-            ConfigurationField::MaxUpload =>
-                "the greatest content of a request, in bytes; 16777216 by default",
-            ConfigurationField::MaxAssembled => {
-                "the greatest file assembled from segments, in bytes; 17179869184 by default"
-            }
-            ConfigurationField::MaxSegments =>
-                "the greatest number of segments of an upload; 10000 by default",
-            ConfigurationField::StagingMaxIdle => {
-                "the seconds after which an upload left alone expires; 3600 by default"
-            }
-            ConfigurationField::IdleSeconds =>
-                "the seconds for which a client may be silent; 60 by default",
-            ConfigurationField::LeastRate => {
-                "the bytes that a busy connection has to move in each idle time, 0 for none; 4096 by default"
-            }
-            ConfigurationField::Connections =>
-                "the connections after which the server ends; none by default",
-            ConfigurationField::AddressConnections => {
-                "the connections that one address may have at once; 1024 by default, which behind a proxy is needed"
-            }
-            ConfigurationField::SpoolBytes => {
-                "the bytes that the spool folder may hold in all; 68719476736 by default"
-            }
-            ConfigurationField::UnfinishedBytes => {
-                "the bytes that unfinished requests may hold in all; 1073741824 by default"
-            }
-            ConfigurationField::ReserveBytes =>
-                "the bytes kept for a full disk, 0 for none; 33554432 by default",
+            Self::RequireIfMatch => "whether changes have to send If-Match; false by default",
+            Self::MaxUpload => "the greatest content of a request, in bytes; 16777216 by default",
+            Self::MaxAssembled =>
+                "the greatest file assembled from segments, in bytes; 17179869184 by default",
+            Self::MaxSegments => "the greatest number of segments of an upload; 10000 by default",
+            Self::StagingMaxIdle =>
+                "the seconds after which an upload left alone expires; 3600 by default",
+            Self::IdleSeconds => "the seconds for which a client may be silent; 60 by default",
+            Self::LeastRate =>
+                "the bytes that a busy connection has to move in each idle time, 0 for none; 4096 by default",
+            Self::Connections => "the connections after which the server ends; none by default",
+            Self::AddressConnections =>
+                "the connections that one address may have at once; 1024 by default, which behind a proxy is needed",
+            Self::SpoolBytes =>
+                "the bytes that the spool folder may hold in all; 68719476736 by default",
+            Self::UnfinishedBytes =>
+                "the bytes that unfinished requests may hold in all; 1073741824 by default",
+            Self::ReserveBytes => "the bytes kept for a full disk, 0 for none; 33554432 by default",
         }
     }
 }

@@ -126,7 +126,7 @@ impl fmt::Display for Wanted {
 
 impl ConfigurationField {
     /// The name of the field in a configuration.
-    #[tactic(auto, unfolding(crate::specs::Fields::name_of))]
+    #[tactic(auto, unfolding(crate::specs::Fields::configuration_key))]
     pub fn name(self) -> &'static str
         ensures { result.now ≡ configuration_key self }
     {

@@ -26,7 +26,7 @@ pub enum Purpose<'a> {
 /// Returns what the content is for, by Content-Disposition, or for a PUT on the Metadata-URL without that field
 /// the metadata document. It is `None` where the field is bad, where the method of the resource takes no such
 /// content, and for an opening that has a content. It takes no memory.
-#[tactic(auto, unfolding(crate::specs::Kinds::kind_of))]
+#[tactic(auto, unfolding(crate::specs::Kinds::content_kind))]
 pub fn content_purpose<'a>(operation: &'a Operation<'_>) -> Option<Purpose<'a>>
     ensures { option_map kind_for result ≡ content_kind operation.now }
 {

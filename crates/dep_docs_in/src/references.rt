@@ -152,7 +152,7 @@ fn attachment_name(alloc: Global, disposition: &Disposition) -> Result<Text, Doc
 }
 
 // The media type of an entry, or the one of unknown bytes.
-#[tactic(auto, unfolding(crate::specs::Documents::media_of))]
+#[tactic(auto, unfolding(crate::specs::Documents::media_in_entry))]
 fn media_of(alloc: Global, entry: &Value) -> Result<Text, DocFault>
     ensures { GivesRead result (media_in_entry (view entry.now)) }
 {

@@ -5,7 +5,7 @@ use Rattle.std.proofs.lemmas.Bool.{ne_eqb, eq-eqb}
 use Rattle.dep_hub.specs.declared.sent_on.SentOn.{SentOn}
 use Rattle.dep_outbox.specs.Wires.{reported}
 use Rattle.dep_slot.specs.declared.slot.Time.{Time}
-use Rattle.dep_host.specs.Hosting.{note_of, closings_of, HostAction, answers_at, pieces_at, sending_at, sendings_at, sendings_in, AreDoneAt}
+use Rattle.dep_host.specs.Actions.{note_of, closings_of, HostAction, answers_at, pieces_at, sending_at, sendings_at, sendings_in, AreDoneAt}
 use Rattle.std.proofs.lemmas.Grind.{flat_map-append}
 use Rattle.dep_slot.specs.Notes.{Note, GrowsWhereShown}
 use Rattle.dep_host.proofs.HostLemmas.{grows_on}

@@ -17,7 +17,8 @@ use Rattle.dep_hub.specs.declared.rest.Behind.TheVariants.{Nothing, Waits}
 use Rattle.dep_hub.proofs.PreparingLemmas.{ahead_sends}
 use Rattle.dep_hub.proofs.SourceLemmas.{kept_sends, unawaited_unsent}
 use Rattle.dep_slot.specs.Slots.{SameBehind}
-use Rattle.dep_host.specs.Hosting.{Position, HostAction, HostStep, refused, asks, comes, rests, offers, delays, sends, refuses, answers, leaves, Steps, begins, goes_on}
+use Rattle.dep_host.specs.Actions.{Position, HostAction}
+use Rattle.dep_host.specs.Hosting.{HostStep, refused, asks, comes, rests, offers, delays, sends, refuses, answers, leaves, Steps, begins, goes_on}
 use Rattle.dep_host.specs.Laws.{StepsAwaiting, waits_first, waits_on}
 use Rattle.dep_host.specs.Runs.{reply_count}
 use Rattle.dep_host.proofs.CloseLemmas.{clean_before}

@@ -9,7 +9,8 @@ use Rattle.dep_hub.specs.Representing.{IsClean, ServesAs}
 use Rattle.dep_hub.specs.declared.hub.Hub.{Hub}
 use Rattle.dep_slot.specs.declared.slot.Slot.{Slot}
 use Rattle.dep_slot.specs.declared.log.Closing.{Closing}
-use Rattle.dep_host.specs.Hosting.{Position, slot_at, HostAction, Opens, Takes, Replies, Sends, Declines, Closes, HostStep, refused, asks, comes, rests, offers, delays, sends, refuses, answers, leaves, Steps, begins, goes_on, LeadsTo}
+use Rattle.dep_host.specs.Actions.{Position, slot_at, HostAction, Opens, Takes, Replies, Sends, Declines, Closes}
+use Rattle.dep_host.specs.Hosting.{HostStep, refused, asks, comes, rests, offers, delays, sends, refuses, answers, leaves, Steps, begins, goes_on, LeadsTo}
 use Rattle.dep_slot.specs.Slots.{HubStays}
 use Rattle.dep_host.specs.Runs.{KeepsPromise, OwesNone, Promises}
 

@@ -7,7 +7,8 @@ use Rattle.std.specs.Io.KnownBytes.{Keeps, Consumes}
 use Rattle.dep_types.specs.Conditions.{Condition}
 use Rattle.dep_slot.specs.declared.slot.Slot.{Slot}
 use Rattle.dep_slot.specs.ConnectionStates.{is_ended}
-use Rattle.dep_host.specs.Hosting.{Position, slot_at, HostAction, Opens, Takes, Replies, Sends, Declines, Closes, AreShown, HostStep, refused, asks, comes, rests, offers, delays, sends, refuses, answers, leaves, GivesTurn, Steps, begins, goes_on}
+use Rattle.dep_host.specs.Actions.{Position, slot_at, HostAction, AreShown, Opens, Takes, Replies, Sends, Declines, Closes}
+use Rattle.dep_host.specs.Hosting.{HostStep, refused, asks, comes, rests, offers, delays, sends, refuses, answers, leaves, GivesTurn, Steps, begins, goes_on}
 use Rattle.dep_host.specs.Runs.{read_by, read_of, given_by, given_of, ReadsItsSource}
 use Rattle.dep_host.proofs.ReadLemmas.{read_append}
 use Rattle.dep_host.proofs.ReportLemmas.{Tidy, steps_tidy, slot_set, some_same, no_some, reported_keeps}

@@ -30,7 +30,8 @@ use Rattle.dep_slot.specs.declared.log.Closing.TheVariants.{Large}
 use Rattle.dep_slot.specs.declared.connection_state.Phase.TheVariants.{Open}
 use Rattle.dep_slot.specs.Notes.{Note, GrowsWhereShown}
 use Rattle.dep_slot.specs.Slots.{SameBehind, SameClient}
-use Rattle.dep_host.specs.Hosting.{Position, slot_at, farewell, MayGo, HostStays, HostAction, Closes, unfinished_of, unfinished_in, Goes, IsRightlyReported, Asks, Refused, HostStep, refused, asks, rests, Steps, begins, goes_on, EvictsLargest}
+use Rattle.dep_host.specs.Actions.{Position, slot_at, HostAction, unfinished_of, unfinished_in, IsRightlyReported, Closes}
+use Rattle.dep_host.specs.Hosting.{farewell, MayGo, HostStays, Goes, Asks, Refused, HostStep, refused, asks, rests, Steps, begins, goes_on, EvictsLargest}
 
 -- what a log is told
 pub grows_none : {X : Type 0} (reported : Option (List X)) → GrowsWhereShown reported reported []

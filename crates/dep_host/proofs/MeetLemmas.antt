@@ -30,7 +30,8 @@ use Rattle.dep_hub.specs.declared.hub.Hub.{Hub}
 use Rattle.dep_hub.specs.Representing.{IsClean, IsHonest}
 use Rattle.dep_hub.specs.Holding.{RepresentsHolding}
 use Rattle.dep_hub.specs.RepresentsOwing.{behind_at}
-use Rattle.dep_host.specs.Hosting.{HostAction, IsEmpty, Position, Steps, position, slot_at, refused, comes, HubStandsStill}
+use Rattle.dep_host.specs.Actions.{HostAction, IsEmpty, Position, position, slot_at}
+use Rattle.dep_host.specs.Hosting.{Steps, refused, comes, HubStandsStill}
 use Rattle.dep_hub.specs.declared.faults.ConnectFault.{ConnectFault}
 use Rattle.dep_hub.specs.declared.faults.ConnectFault.TheVariants as fault
 use Rattle.dep_host.specs.Meeting.{IsOffer, MayCall, IsShutBy, MayEnd, Stops, Wakes, MayRefuse, IsFull, TurnsAway, Admits, Meets, refusal_for, refusal_of, rejection_for, shut_by, wakes, lets_in, turns_away, makes_round, stops, IsMet, begins, goes_on, all_given, Met}

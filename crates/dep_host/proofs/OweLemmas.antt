@@ -28,7 +28,8 @@ use Rattle.dep_slot.specs.declared.connection_state.Phase.{Phase}
 use Rattle.dep_slot.specs.declared.connection_state.Phase.TheVariants.{Open, Over}
 use Rattle.dep_slot.specs.ConnectionStates.{is_sending}
 use Rattle.dep_slot.specs.Slots.{SameBehind}
-use Rattle.dep_host.specs.Hosting.{Position, slot_at, AreShown, HostAction, Opens, Takes, Replies, Sends, Declines, Closes, sent_by_action, replies_to, HubStandsStill, HostStep, refused, asks, comes, rests, offers, delays, sends, refuses, answers, leaves, Steps, begins, goes_on}
+use Rattle.dep_host.specs.Actions.{Position, slot_at, AreShown, HostAction, sent_by_action, replies_to, Opens, Takes, Replies, Sends, Declines, Closes}
+use Rattle.dep_host.specs.Hosting.{HubStandsStill, HostStep, refused, asks, comes, rests, offers, delays, sends, refuses, answers, leaves, Steps, begins, goes_on}
 use Rattle.dep_host.specs.Runs.{Follows, begins as follows_none, opens, takes, replies, sends as follows_sent, declines, closes, IsClosedByNone, reply_count, parts_of, sent_for, sent_of, KeepsPromise, OwesNone}
 use Rattle.dep_host.proofs.CloseLemmas.{clean_before}
 use Rattle.dep_host.proofs.HostLemmas.{steps_join}

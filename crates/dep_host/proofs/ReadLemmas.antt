@@ -4,7 +4,7 @@ use Rattle.std.proofs.lemmas.List.{append-nil}
 use Rattle.std.proofs.lemmas.Bool.{cases_eq, eq-eqb, ne_eqb}
 use Rattle.dep_exchange.specs.Records.{Record, Connect, Arrive, Close}
 use Rattle.dep_hub.specs.Holding.{with_held}
-use Rattle.dep_host.specs.Hosting.{HostAction, Opens, Takes, Replies, Sends, Declines, Closes, sent_by_action, replies_to}
+use Rattle.dep_host.specs.Actions.{HostAction, sent_by_action, replies_to, Opens, Takes, Replies, Sends, Declines, Closes}
 use Rattle.dep_host.specs.Runs.{Follows, begins, opens, takes, replies, sends, declines, closes, read_by, read_of, arrived_by, arrived_of, IsClosedByNone, sent_for, sent_of}
 use Rattle.std.proofs.lemmas.Grind.{flat_map-append}
 

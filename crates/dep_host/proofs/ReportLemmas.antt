@@ -7,7 +7,8 @@ use Rattle.dep_types.specs.Conditions.{Condition}
 use Rattle.dep_slot.specs.declared.slot.Slot.{Slot}
 use Rattle.dep_outbox.specs.Wires.{front_of, joined_bytes, reported}
 use Rattle.dep_host.specs.Runs.{IsClosedByNone}
-use Rattle.dep_host.specs.Hosting.{Position, slot_at, HostAction, Opens, Takes, Replies, Sends, Declines, Closes, sent_by_action, replies_to, AreShown, HostStep, refused, asks, comes, rests, offers, delays, sends, refuses, answers, leaves, GivesTurn, Steps, begins, goes_on}
+use Rattle.dep_host.specs.Actions.{Position, slot_at, HostAction, sent_by_action, replies_to, AreShown, Opens, Takes, Replies, Sends, Declines, Closes}
+use Rattle.dep_host.specs.Hosting.{HostStep, refused, asks, comes, rests, offers, delays, sends, refuses, answers, leaves, GivesTurn, Steps, begins, goes_on}
 use Rattle.std.proofs.lemmas.Grind.{flat_map-append}
 
 abbrev or_else : {X : Type 0} → X → Option X → X

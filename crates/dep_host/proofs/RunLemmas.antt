@@ -11,7 +11,8 @@ use Rattle.dep_hub.specs.RepresentsOwing.{KeepsBack}
 use Rattle.dep_hub.specs.declared.hub.Hub.{Hub}
 use Rattle.dep_exchange.specs.declared.arrived.Arrived.{Arrived}
 use Rattle.dep_host.proofs.CloseLemmas.{clean_before}
-use Rattle.dep_host.specs.Hosting.{Position, HostAction, HostStep, refused, asks, comes, rests, offers, delays, sends, refuses, answers, leaves, HubStandsStill, Steps, begins, goes_on}
+use Rattle.dep_host.specs.Actions.{Position, HostAction}
+use Rattle.dep_host.specs.Hosting.{HostStep, refused, asks, comes, rests, offers, delays, sends, refuses, answers, leaves, HubStandsStill, Steps, begins, goes_on}
 use Rattle.dep_host.specs.Runs.{Follows, begins as follows_none, opens, takes, replies, sends as follows_sent, declines, closes, RepresentsBehind}
 
 -- a hub stands where it stood once an item was kept back

@@ -18,7 +18,8 @@ use Rattle.dep_slot.specs.declared.connection_state.Phase.TheVariants.{Open, Ans
 use Rattle.dep_slot.specs.declared.slot.Slot.{Slot}
 use Rattle.dep_slot.specs.ConnectionStates.{is_ended, is_sending, SendsStill}
 use Rattle.dep_slot.specs.Slots.{SameBehind, phase_answered, phase_sent}
-use Rattle.dep_host.specs.Hosting.{Position, slot_at, HostAction, HostStep, refused, asks, comes, rests, offers, delays, sends, refuses, answers, leaves, GivesTurn, Steps, begins, goes_on}
+use Rattle.dep_host.specs.Actions.{Position, slot_at, HostAction}
+use Rattle.dep_host.specs.Hosting.{HostStep, refused, asks, comes, rests, offers, delays, sends, refuses, answers, leaves, GivesTurn, Steps, begins, goes_on}
 use Rattle.dep_host.proofs.ReportLemmas.{Tidy, steps_tidy, slot_set, some_same, no_some}
 
 -- by what is behind its last reply and how far it is: a content is sent where one is behind it, unless it is over, and none was broken off of who is read

@@ -23,7 +23,8 @@ use Rattle.dep_slot.specs.declared.connection_state.Phase.TheVariants.{Open, Ove
 use Rattle.dep_slot.specs.declared.connection_state.NextAction.{NextAction}
 use Rattle.dep_slot.specs.declared.connection_state.NextAction.TheVariants as to
 use Rattle.dep_slot.specs.Slots.{IsPutOff, IsUnknown, MayRest, ActsOnce, TakesTurn, slot_action, phase_sent}
-use Rattle.dep_host.specs.Hosting.{Position, slot_at, MayGo, farewell, closings_of, HostAction, Takes, Replies, Sends, Declines, Closes, answers_at, pieces_at, sendings_at, sendings_in, unfinished_of, AreDoneAt, GivesTurn, Goes, rests, offers, delays, sends, refuses, answers, leaves, Steps, begins, goes_on, IsOnce, IsLost, IsServed, IsServedAt, turn_action, ServesSlot}
+use Rattle.dep_host.specs.Actions.{Position, slot_at, closings_of, HostAction, answers_at, pieces_at, sendings_at, sendings_in, unfinished_of, AreDoneAt, Takes, Replies, Sends, Declines, Closes}
+use Rattle.dep_host.specs.Hosting.{MayGo, farewell, GivesTurn, Goes, rests, offers, delays, sends, refuses, answers, leaves, Steps, begins, goes_on, IsOnce, IsLost, IsServed, IsServedAt, turn_action, ServesSlot}
 use Rattle.dep_slot.specs.Notes.{Note, LetGo, GrowsWhereShown}
 use Rattle.dep_host.proofs.HostLemmas.{grows_same, slot_read, steps_join, unchanged, woken}
 use Rattle.dep_host.proofs.ActionLemmas.{answers_append, pieces_append, sendings_in_append, counted_by, sendings_after, in_time_append, noted_on, one_at_most, one_here, one_sent, none_sent, none_elsewhere}

@@ -5,7 +5,8 @@ use Rattle.dep_hub.specs.Representing.{IsClean}
 use Rattle.dep_host.specs.declared.ending.Cause.TheVariants.{Store}
 use Rattle.dep_host.specs.declared.ending.Shut.{Shut}
 use Rattle.dep_host.specs.Meeting.{IsShutBy}
-use Rattle.dep_host.specs.Hosting.{Position, HostAction, AreOutgoing, IsRightlyReported, HostStep, refused, asks, comes, rests, offers, delays, sends, refuses, answers, leaves, Steps, begins, goes_on}
+use Rattle.dep_host.specs.Actions.{Position, HostAction, AreOutgoing, IsRightlyReported}
+use Rattle.dep_host.specs.Hosting.{HostStep, refused, asks, comes, rests, offers, delays, sends, refuses, answers, leaves, Steps, begins, goes_on}
 use Rattle.dep_host.proofs.CloseLemmas.{clean_before}
 
 outgoing_append : (xs ys : List HostAction) → AreOutgoing xs → AreOutgoing ys → AreOutgoing (xs ++ ys)

@@ -14,7 +14,8 @@ use Rattle.dep_slot.specs.declared.log.Closing.{Closing}
 use Rattle.dep_slot.specs.declared.connection_state.NextAction.{NextAction}
 use Rattle.dep_slot.specs.declared.connection_state.NextAction.TheVariants as to
 use Rattle.dep_slot.specs.Slots.{IsUnknown, phase_sent}
-use Rattle.dep_host.specs.Hosting.{Position, slot_at, HostAction, Closes, answers_at, pieces_at, sendings_at, unfinished_of, Goes, Steps, begins, IsClosed, IsLeftOrClosed, IsOnce, IsLost, IsKeptBack, IsServed, IsServedAt, turn_action}
+use Rattle.dep_host.specs.Actions.{Position, slot_at, HostAction, answers_at, pieces_at, sendings_at, unfinished_of, Closes}
+use Rattle.dep_host.specs.Hosting.{Goes, Steps, begins, IsClosed, IsLeftOrClosed, IsOnce, IsLost, IsKeptBack, IsServed, IsServedAt, turn_action}
 use Rattle.dep_host.proofs.HostLemmas.{steps_join}
 use Rattle.dep_host.proofs.ActionLemmas.{answers_append, pieces_append, sendings_after, sendings_before}
 use Rattle.dep_slot.proofs.SlotLemmas.{lost_too}

@@ -12,7 +12,8 @@ use Rattle.dep_slot.specs.declared.slot.Time.{Time}
 use Rattle.dep_slot.specs.declared.log.Closing.TheVariants.{Large}
 use Rattle.dep_slot.specs.declared.connection_state.NextAction.{NextAction}
 use Rattle.dep_slot.specs.declared.connection_state.NextAction.TheVariants as to
-use Rattle.dep_host.specs.Hosting.{Position, slot_at, closings_of, HostAction, Closes, answers_at, pieces_at, sendings_at, sendings_in, unfinished_of, unfinished_in, AreDoneAt, leaves, Steps, begins, goes_on, IsClosed, IsServed, IsServedAt, IsTurned, WasAwaited, ServesSlot, GoesRound, EvictsLargest}
+use Rattle.dep_host.specs.Actions.{Position, slot_at, closings_of, HostAction, answers_at, pieces_at, sendings_at, sendings_in, unfinished_of, unfinished_in, AreDoneAt, Closes}
+use Rattle.dep_host.specs.Hosting.{leaves, Steps, begins, goes_on, IsClosed, IsServed, IsServedAt, IsTurned, WasAwaited, ServesSlot, GoesRound, EvictsLargest}
 use Rattle.dep_slot.specs.Notes.{Note, GrowsWhereShown}
 use Rattle.dep_host.specs.declared.share.Share.{Share}
 use Rattle.dep_host.specs.Sharing.{IsNextPlace, counted, is_turn, most_sent}

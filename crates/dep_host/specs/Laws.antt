@@ -19,7 +19,8 @@ use Rattle.dep_slot.specs.declared.slot.Time.{Time}
 use Rattle.dep_slot.specs.Causes.{Causes}
 use Rattle.dep_slot.specs.Notes.{Note}
 use Rattle.dep_host.specs.Sharing.{is_turn}
-use Rattle.dep_host.specs.Hosting.{Position, HostAction, GoesRound, HostStep, Steps, AreShown, AreOutgoing, IsEmpty, WasAwaited, slot_at, replies_to, sendings_at}
+use Rattle.dep_host.specs.Actions.{Position, HostAction, AreShown, AreOutgoing, IsEmpty, slot_at, replies_to, sendings_at}
+use Rattle.dep_host.specs.Hosting.{GoesRound, HostStep, Steps, WasAwaited}
 use Rattle.dep_host.specs.Runs.{RepresentsBehind, KeepsPromise, OwesNone, Follows, IsClosedByNone, read_of, arrived_of, parts_of, reply_count}
 
 -- what was read of a connection that stays open has arrived, but for what is held

@@ -1,4 +1,5 @@
 pub mod Sharing
+pub mod Actions
 pub mod Hosting
 pub mod Runs
 pub mod Coming

@@ -30,7 +30,8 @@ use Rattle.dep_host.specs.declared.serving.Ended.TheVariants as ended
 use Rattle.dep_host.specs.Coming.{PollCall, origin, slots_from, seconds_in}
 use Rattle.dep_slot.specs.Causes.{Causes}
 use Rattle.dep_slot.specs.Slots.{woken_slot}
-use Rattle.dep_host.specs.Hosting.{OpensSlot, HostAction, Opens, GoesRound, HasTime, IsEmpty, IsVacant, HasNothingToDo, Refused, HostStays, Steps, position, slot_at}
+use Rattle.dep_host.specs.Actions.{HostAction, IsEmpty, position, slot_at, Opens}
+use Rattle.dep_host.specs.Hosting.{OpensSlot, GoesRound, HasTime, IsVacant, HasNothingToDo, Refused, HostStays, Steps}
 use Rattle.dep_slot.specs.Notes.{Note, LetIn, Rejected, GrowsWhereShown}
 use Rattle.dep_host.specs.Rounds.{EndsInTime, IsReported, is_overdue}
 

@@ -16,7 +16,8 @@ use Rattle.dep_outbox.specs.Wires.{reported}
 use Rattle.dep_slot.specs.declared.slot.Slot.{Slot}
 use Rattle.dep_slot.specs.ConnectionStates.{is_ended}
 use Rattle.dep_slot.specs.declared.log.Closing.{Closing}
-use Rattle.dep_host.specs.Hosting.{Position, Steps, IsEmpty, slot_at, AreShown, HostAction, Opens, Takes, Replies, Sends, Declines, Closes}
+use Rattle.dep_host.specs.Actions.{Position, IsEmpty, slot_at, AreShown, HostAction, Opens, Takes, Replies, Sends, Declines, Closes}
+use Rattle.dep_host.specs.Hosting.{Steps}
 
 -- The records of the actions, from what each connection held at first to what it holds now: a piece is
 -- held until the items of it are answered, and a part of what is held arrives with each answer. What is

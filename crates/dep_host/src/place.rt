@@ -1,7 +1,7 @@
 //! Who is at a place of a host, if anybody is.
 ghost use Rattle.std.specs.Prelude.{◌≡◌, IsSomeAnd, true, false};
 ghost use Rattle.dep_slot.specs.declared.connection_state.Phase.TheVariants.{Open};
-ghost use Rattle.dep_host.specs.Hosting.{unfinished_of};
+ghost use Rattle.dep_host.specs.Actions.{unfinished_of};
 
 use dep_outbox::{Sink, Source, Spool};
 use dep_slot::Slot;

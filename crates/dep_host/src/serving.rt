@@ -4,7 +4,8 @@ ghost use Rattle.std.specs.List.{AllByRecursion};
 ghost use Rattle.dep_host.specs.Coming.{IsFresh, seconds_of};
 ghost use Rattle.dep_slot.specs.Causes.{causes_of};
 ghost use Rattle.dep_host.specs.Rounds.{is_overdue};
-ghost use Rattle.dep_host.specs.Hosting.{HostAction, LeadsTo, position};
+ghost use Rattle.dep_host.specs.Actions.{HostAction, position};
+ghost use Rattle.dep_host.specs.Hosting.{LeadsTo};
 ghost use Rattle.dep_host.specs.Meeting.{AsksOn, IsIdle, IsMet, IsOffer, MayEnd, Meets, Met, most_events};
 ghost use Rattle.dep_host.specs.Runs.{Promises};
 

@@ -84,6 +84,7 @@ pub record First (limit : ℕ) (continued : Bool) (bytes : List ℕ) (item : Ite
   pub spelled : IsItemText limit continued text item
   pub goes_on : next ≡ after_item item text behind
 
+-- at the place an item stands first, and the other place is behind it
 abbrev pub FirstAt : ℕ → Place → Item → Place → Type 0
 FirstAt limit (Open continued bytes) item next = First limit continued bytes item next
 FirstAt limit Shut item next = ⊥

@@ -24,6 +24,7 @@ pub record SeesOf (its : Schema) (s : State) (tables : Tables) : Type 0 where
   pub ours : IsOf its s
   pub rows : tables_of s ≡ tables
 
+-- the connection sees these tables, in the schema of our version
 abbrev pub SeesTables : State → Tables → Type 0
 SeesTables = SeesOf our_schema
 

@@ -3,7 +3,7 @@
 ghost use Rattle.std.specs.Prelude.{◌≡◌, ◌<◌, ◌^◌, Some, None, IfOk, map as each};
 ghost use Rattle.std.specs.FinMap as map;
 ghost use Rattle.dep_row_maps.specs.Stored.{with_added_text, listed, grouped};
-ghost use Rattle.dep_row_maps.specs.Laws.{pair_of};
+ghost use Rattle.dep_row_maps.specs.ReadLaws.{pair_of};
 ghost use Rattle.dep_row_maps.specs.TablesAre.{metadata_at};
 ghost use Rattle.dep_row_maps.specs.Clauses.{Finds};
 ghost use Rattle.dep_objects.specs.Texts.{closed};

@@ -14,10 +14,12 @@ use Rattle.dep_operations.specs.declared.view.UploadView.{UploadView}
 use Rattle.dep_operations.specs.declared.view.UploadState.{UploadState}
 use Rattle.dep_operations.specs.declared.view.UploadState.TheVariants.{Unknown, TimedOut, Live}
 
+-- the upload, where it is live
 abbrev pub live_in : UploadState → Option LiveUpload
 live_in (Live l) = Some l
 live_in _ = None
 
+-- it was dropped when it had been left alone for too long
 abbrev pub is_timed_out : UploadState → Bool
 is_timed_out TimedOut = true
 is_timed_out _ = false

@@ -70,6 +70,7 @@ abbrev pub named : List ℕ → Option (List ℕ × List ℕ) → Option (NamedV
 named name read =
     option_map (λ p. (record { name = str_to_ascii_lowercase name; value = p.0 }, p.1)) read
 
+-- how many of the first bytes are those of a token (RFC 9110, section 5.6.2)
 abbrev pub token_len : List ℕ → ℕ
 token_len text = prefix_len is_token_octet text
 

@@ -21,7 +21,7 @@ use Rattle.dep_tables.specs.declared.owner.BlockOwner.{BlockOwner}
 use Rattle.dep_tables.specs.declared.owner.BlockOwner.TheVariants as owner
 use Rattle.dep_row_maps.specs.Stored.{shown_sha512, sha512_rows}
 use Rattle.dep_row_maps.specs.TablesAre.{TablesAre, TablesAreOf, Sha512s, Sha512sAre, HasSha512, AreFilesSha512s, AreUploadsSha512s, files_at, promised_at}
-use Rattle.dep_row_maps.specs.Laws.{ReportsSha512, Sha512Read}
+use Rattle.dep_row_maps.specs.ReadLaws.{ReportsSha512, Sha512Read}
 use Rattle.dep_row_maps.proofs.Blocks.{one_owner, same_owner, is_owner}
 use Rattle.dep_row_maps.proofs.Owners.{owners-put, owners-delete, with_at}
 use Rattle.dep_row_maps.proofs.Files.{same_number}

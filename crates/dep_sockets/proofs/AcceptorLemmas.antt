@@ -10,7 +10,8 @@ use Rattle.dep_hub.specs.declared.hub.Hub.{Hub}
 use Rattle.dep_host.specs.declared.ending.Cause.TheVariants as cause
 use Rattle.dep_host.specs.declared.serving.Ended.{Ended}
 use Rattle.dep_host.specs.declared.serving.Ended.TheVariants as ended
-use Rattle.dep_host.specs.Hosting.{Position, position, HostAction, comes, Steps, begins}
+use Rattle.dep_host.specs.Actions.{Position, position, HostAction}
+use Rattle.dep_host.specs.Hosting.{comes, Steps, begins}
 use Rattle.dep_host.specs.Runs.{RepresentsBehind}
 use Rattle.dep_host.proofs.CloseLemmas.{steps_serve}
 use Rattle.dep_host.specs.Runs as runs

@@ -8,7 +8,7 @@ use Rattle.dep_hub.specs.Representing.{RepresentsAfter, IsClean, IsHonest}
 use Rattle.dep_hub.specs.declared.hub.Hub.{Hub}
 use Rattle.dep_slot.specs.Causes.{Causes}
 use Rattle.dep_host.specs.Coming.{PollCall}
-use Rattle.dep_host.specs.Hosting.{HostAction, IsEmpty, position}
+use Rattle.dep_host.specs.Actions.{HostAction, IsEmpty, position}
 use Rattle.dep_host.specs.Meeting.{Met, most_events}
 use Rattle.dep_slot.specs.Notes.{Note}
 use Rattle.dep_host.specs.Runs.{RepresentsBehind}

@@ -1,5 +1,5 @@
 use Rattle.std.proofs.Common.{ap, ◌∙◌}
-use Rattle.dep_host.specs.Hosting.{slot_at}
+use Rattle.dep_host.specs.Actions.{slot_at}
 use Rattle.dep_host.proofs.HostLemmas.{none_more}
 use Rattle.dep_host.proofs.host.empty_slots.Goals as goal
 

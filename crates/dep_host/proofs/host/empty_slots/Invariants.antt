@@ -1,5 +1,5 @@
 use Rattle.std.proofs.Common.{◌≡◌, ℕ, None}
-use Rattle.dep_host.specs.Hosting.{slot_at}
+use Rattle.dep_host.specs.Actions.{slot_at}
 use Rattle.dep_host.proofs.host.empty_slots.Given as goal
 
 abbrev pub invariant-loop : goal.invariant-loop

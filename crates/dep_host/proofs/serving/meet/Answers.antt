@@ -3,7 +3,8 @@ use Rattle.std.proofs.lemmas.Result.{IfOk-weaker}
 use Rattle.dep_slot.specs.Causes.{causes_of}
 use Rattle.dep_host.specs.Rounds.{is_overdue}
 use Rattle.dep_host.specs.Coming.{seconds_of}
-use Rattle.dep_host.specs.Hosting.{GoesRound, position}
+use Rattle.dep_host.specs.Actions.{position}
+use Rattle.dep_host.specs.Hosting.{GoesRound}
 use Rattle.dep_host.specs.declared.events.Event.{Event}
 use Rattle.dep_host.specs.Meeting.{MayEnd, wakes, makes_round, stops}
 use Rattle.dep_host.proofs.RoundLemmas.{all_round, all_stop}

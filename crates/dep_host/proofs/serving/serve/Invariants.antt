@@ -1,6 +1,6 @@
 use Rattle.std.specs.Prelude.{List, ◌≡◌, false}
 use Rattle.dep_slot.specs.Causes.{causes_of}
-use Rattle.dep_host.specs.Hosting.{HostAction}
+use Rattle.dep_host.specs.Actions.{HostAction}
 use Rattle.dep_host.specs.Meeting.{IsIdle, IsOffer, Met}
 use Rattle.dep_host.specs.declared.serving.Ended.TheVariants.{Spent}
 use Rattle.dep_host.proofs.serving.serve.Given as goal

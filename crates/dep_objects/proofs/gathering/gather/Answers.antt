@@ -3,7 +3,7 @@ use Rattle.std.proofs.Math.Dec.{eqb}
 use Rattle.std.proofs.lemmas.Bool.{eqb-true, eq-eqb}
 use Rattle.std.proofs.lemmas.Slice.Eq.{slice_eq-Decides}
 use Rattle.dep_row_maps.specs.Stored.{with_added_text}
-use Rattle.dep_row_maps.specs.Laws.{pair_of}
+use Rattle.dep_row_maps.specs.ReadLaws.{pair_of}
 use Rattle.dep_objects.specs.Texts.{closed}
 use Rattle.dep_files.proofs.Results.{pushed}
 use Rattle.dep_objects.proofs.Named.{one_more}

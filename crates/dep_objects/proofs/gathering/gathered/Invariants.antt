@@ -1,6 +1,6 @@
 use Rattle.std.proofs.Common.{◌≡◌, fold, map as each}
 use Rattle.dep_row_maps.specs.Stored.{with_added_text, grouped}
-use Rattle.dep_row_maps.specs.Laws.{pair_of}
+use Rattle.dep_row_maps.specs.ReadLaws.{pair_of}
 use Rattle.dep_objects.specs.Texts.{closed}
 use Rattle.dep_objects.proofs.gathering.gathered.Given as goal
 

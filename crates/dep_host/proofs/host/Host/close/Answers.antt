@@ -4,7 +4,8 @@ use Rattle.dep_exchange.specs.Records.{Absent}
 use Rattle.dep_hub.specs.Holding.{LineTransition, with_held}
 use Rattle.dep_hub.specs.RepresentsOwing.{behind_at}
 use Rattle.dep_hub.specs.declared.rest.Behind.TheVariants.{Nothing}
-use Rattle.dep_host.specs.Hosting.{MayGo, position}
+use Rattle.dep_host.specs.Actions.{position}
+use Rattle.dep_host.specs.Hosting.{MayGo}
 use Rattle.dep_host.proofs.HostLemmas.{within_still, free_once_left, slot_read, closing, closing_none, stays_set}
 use Rattle.dep_host.proofs.host.Host.close.Goals as goal
 

@@ -1,5 +1,6 @@
 use Rattle.std.proofs.Common.{◌≡◌, ◌+◌}
-use Rattle.dep_host.specs.Hosting.{HostStays, position}
+use Rattle.dep_host.specs.Actions.{position}
+use Rattle.dep_host.specs.Hosting.{HostStays}
 use Rattle.dep_host.proofs.host.Host.draw_in.Given as goal
 
 abbrev pub invariant-loop : goal.invariant-loop

@@ -1,6 +1,6 @@
 use Rattle.std.proofs.Common.{◌≡◌, ℕ, None, inl, inr, refl, sym, subst, ◌∙◌}
 use Rattle.std.proofs.lemmas.Bool.{cases_eq, ltb-true}
-use Rattle.dep_host.specs.Hosting.{position, slot_at}
+use Rattle.dep_host.specs.Actions.{position, slot_at}
 use Rattle.dep_host.proofs.HostLemmas.{too_large, evict_one}
 use Rattle.dep_host.proofs.host.Host.evict_largest.Goals as goal
 

@@ -1,5 +1,5 @@
 use Rattle.std.proofs.Common.{ℕ, ◌<◌, ◌≡◌, None}
-use Rattle.dep_host.specs.Hosting.{slot_at}
+use Rattle.dep_host.specs.Actions.{slot_at}
 use Rattle.dep_host.proofs.host.Host.is_empty.Given as goal
 
 abbrev pub invariant-loop-at : goal.invariant-loop-at

@@ -1,5 +1,5 @@
 use Rattle.std.proofs.Common.{ℕ, nat_lt, ap, sym, ◌∙◌, arith}
-use Rattle.dep_host.specs.Hosting.{unfinished_of}
+use Rattle.dep_host.specs.Actions.{unfinished_of}
 use Rattle.dep_host.proofs.HostLemmas.{kept_front, kept_more, slot_read}
 use Rattle.dep_host.proofs.host.Host.is_full.Goals as goal
 

@@ -1,5 +1,5 @@
 use Rattle.std.proofs.Common.{◌≡◌, ◌≤◌, ◌*◌, ◌^◌, take}
-use Rattle.dep_host.specs.Hosting.{unfinished_in}
+use Rattle.dep_host.specs.Actions.{unfinished_in}
 use Rattle.dep_host.proofs.host.Host.is_full.Given as goal
 
 abbrev pub invariant-loop-at : goal.invariant-loop-at

@@ -1,5 +1,5 @@
 use Rattle.std.proofs.Common.{◌≤◌, ◌<◌, ℕ}
-use Rattle.dep_host.specs.Hosting.{slot_at, unfinished_of}
+use Rattle.dep_host.specs.Actions.{slot_at, unfinished_of}
 use Rattle.dep_host.proofs.host.Host.largest.Given as goal
 
 abbrev pub invariant-loop-at : goal.invariant-loop-at

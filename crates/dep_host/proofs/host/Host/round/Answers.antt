@@ -3,7 +3,8 @@ use Rattle.dep_slot.specs.Causes.{causes_of}
 use Rattle.dep_host.specs.declared.ending.Shut.{Shut}
 use Rattle.dep_slot.specs.declared.limits.Limits.{Limits}
 use Rattle.dep_host.specs.declared.share.Share.{Share}
-use Rattle.dep_host.specs.Hosting.{GoesRound, HasTime, HasNothingToDo, Position, ServesSlot, position, slot_at}
+use Rattle.dep_host.specs.Actions.{Position, position, slot_at}
+use Rattle.dep_host.specs.Hosting.{GoesRound, HasTime, HasNothingToDo, ServesSlot}
 use Rattle.dep_host.proofs.HostLemmas.{each_goes_on, each_evicts, neither, stays_same, stays_on}
 use Rattle.dep_host.proofs.ShareLemmas.{counted_first}
 use Rattle.dep_host.proofs.WholeRounds.{room_for, round_begins, round_goes_on, round_ends}

@@ -1,6 +1,7 @@
 use Rattle.std.proofs.Common.{◌≡◌, ◌<◌, ℕ, false}
 use Rattle.dep_slot.specs.Causes.{causes_of}
-use Rattle.dep_host.specs.Hosting.{HasTime, HasNothingToDo, HostStays, position, slot_at}
+use Rattle.dep_host.specs.Actions.{position, slot_at}
+use Rattle.dep_host.specs.Hosting.{HasTime, HasNothingToDo, HostStays}
 use Rattle.dep_host.proofs.WholeRounds.{RoundSoFar}
 use Rattle.dep_host.proofs.host.Host.round.Given as goal
 
