@@ -9,14 +9,14 @@ use Rattle.dep_octets.specs.Octets.{is_digits, decimal_number}
 use Rattle.dep_octets.specs.declared.numbers.Number.TheVariants.{NotDigits, Above, Value}
 use Rattle.std.proofs.lemmas.Option.{same_Some}
 use Rattle.std.specs.Str.Parse.{digits_value}
-use Rattle.dep_types.specs.Maps.{◌>>=◌}
+use Rattle.dep_types.specs.Maps.{◌>>=◌, optional}
 use Rattle.dep_types.specs.Limits.{IsLimit}
 use Rattle.dep_types.specs.Config as set_up
 use Rattle.dep_types.specs.declared.config.Config.{Config}
 use Rattle.dep_configuration.specs.Configured.{HasConfig}
 use Rattle.dep_configuration.specs.Faults.{is_required, AreReadable, Suits}
 use Rattle.dep_configuration.specs.Fields.{bounds, bounds_of, wanted_of}
-use Rattle.dep_configuration.specs.Readings.{at_least, nonempty, filled_text_of, flag_of, given_field, given_text, number_or_default, number_within, optional, optional_number_of, text_or_default}
+use Rattle.dep_configuration.specs.Readings.{at_least, nonempty, filled_text_of, flag_of, given_field, given_text, number_or_default, number_within, optional_number_of, text_or_default}
 use Rattle.dep_configuration.specs.declared.field.Bounds.{Bounds}
 use Rattle.dep_configuration.specs.declared.field.ConfigurationField.{ConfigurationField}
 use Rattle.dep_configuration.specs.declared.field.ConfigurationField.TheVariants.{Port, MaxUpload, MaxAssembled, MaxSegments, StagingMaxIdle}
