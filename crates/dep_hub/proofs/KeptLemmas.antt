@@ -37,7 +37,7 @@ use Rattle.dep_hub.specs.declared.rest.Behind.{Behind}
 use Rattle.dep_exchange.specs.declared.rest.Rest.{Rest}
 use Rattle.dep_hub.specs.declared.rest.Behind.TheVariants.{Nothing, Content, Broken, Waits, Prepares, Prepared}
 use Rattle.dep_hub.specs.declared.claim.Claim.{Claim}
-use Rattle.dep_hub.specs.declared.claim.Claim.TheVariants.{Takes, ReadsItems as ReadsFile, Neither}
+use Rattle.dep_hub.specs.declared.claim.Claim.TheVariants.{Takes, Reads as ReadsFile, Neither}
 use Rattle.dep_hub.specs.Claims.{claim_by, claim_of, claim_to, has_to_wait, is_in_the_way, taken_of}
 use Rattle.dep_head.specs.Head.{HeadParts}
 use Rattle.dep_types.specs.declared.target.Resource.{Resource}
