@@ -1,9 +1,6 @@
 -- What is known after the rules on a content.
-use Rattle.std.proofs.Common.{◌≡◌, ◌∙◌, ℕ, ◌<◌, ◌+◌, Bool, true, false, List, [], ◌∷◌, ◌++◌, take, length, get_or, Option, Some, None, option_and_then, if◌then◌else◌, refl, sym, ap}
-use Rattle.std.proofs.lemmas.List.{take_more}
-use Rattle.std.proofs.lemmas.List.Elements.{filter_map-append}
+use Rattle.std.proofs.Common.{◌≡◌, ◌∙◌, Bool, true, false, [], ◌∷◌, Option, Some, None, option_and_then, if◌then◌else◌, refl, sym, ap}
 use Rattle.std.specs.Prelude.{IfSome}
-use Rattle.std.specs.List.{cons_option}
 use Rattle.dep_types.specs.Maps.{first_of}
 use Rattle.dep_types.specs.declared.config.Config.{Config}
 use Rattle.dep_types.specs.declared.refusal.Refusal.{Refusal}
@@ -13,8 +10,6 @@ use Rattle.dep_fields.specs.declared.field.Field.{Field}
 use Rattle.dep_fields.specs.declared.field.Field.TheVariants.{Absent, Bad, Value}
 use Rattle.dep_fields.specs.declared.kind.Kind.{Kind}
 use Rattle.dep_fields.specs.declared.kind.Kind.TheVariants as of
-use Rattle.dep_docs_in.specs.declared.reference.Reference.{Reference}
-use Rattle.dep_decisions.specs.Decisions.{upload_number}
 use Rattle.dep_decisions.specs.Kinds.{content_kind}
 use Rattle.dep_decisions.specs.Laws.{refusal_before_room}
 use Rattle.dep_decisions.specs.Rules.{access_refusal, content_by, content_refusal, digest_rule, digests_if_promised, document_refusal, document_rule, fields_refusal, has_content, size_refusal, size_rule}
@@ -22,7 +17,6 @@ use Rattle.dep_decisions.specs.declared.operation.Operation.{Operation}
 use Rattle.dep_decisions.proofs.Taken.{content_taken}
 use Rattle.dep_operations.specs.Checks.{IsCheckedBy}
 use Rattle.dep_operations.specs.Seen.{in_view}
-use Rattle.dep_operations.specs.Views.{uploads_named}
 use Rattle.dep_operations.specs.declared.order.Checked.TheVariants.{Passed}
 use Rattle.dep_operations.specs.declared.view.View.{View}
 
@@ -88,11 +82,3 @@ nothing_left config view op access none = (
       ∙ ap (λ b. first_of ((if b then content_by config (in_view view) op else None) ∷ [])) none,
   record { metadata = λ is. let has = content_taken op of.Metadata is in absurd (cc (has, none)); digests = tt },
 )
-
--- the uploads named up to one more entry
-pub named_more : (refs : List Reference) (i : ℕ) (r : Reference) → i < length refs → r ≡ get_or refs i r
-    → uploads_named (take (i + 1) refs) ≡ uploads_named (take i refs) ++ cons_option (upload_number r.target) []
-named_more refs i r h is =
-    ap uploads_named (take_more refs i r h)
-    ∙ filter_map-append (λ (r : Reference). upload_number r.target) (take i refs) (get_or refs i r ∷ [])
-    ∙ ap (λ (x : Reference). uploads_named (take i refs) ++ cons_option (upload_number x.target) []) (sym is)

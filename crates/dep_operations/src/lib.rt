@@ -1,4 +1,4 @@
-//! Rulings on requests: what a request touches of the archive, and from a view of that whether it is
+//! Rulings on requests: from a view of what a request touches of the archive whether it is
 //! refused, or what it asks for.
 #![tactic(auto)]
 
@@ -6,12 +6,10 @@ mod order;
 mod references;
 mod rules;
 mod ruling;
-mod touched;
 mod view;
 
 pub use dep_decisions::{Decision, Operation};
 pub use order::{decide, refusal_before_digests};
 pub use references::{segments_rule, state_rule};
 pub use ruling::Ruling;
-pub use touched::touches;
 pub use view::{LiveUpload, SegmentId, Touched, UploadState, UploadView, View};

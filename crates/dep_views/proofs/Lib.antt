@@ -1,3 +1,4 @@
+mod Naming
 pub mod Counted
 pub mod Chains
 pub mod Reported

@@ -1,6 +1,6 @@
 use Rattle.std.proofs.Common.{◌∙◌, ap}
 use Rattle.dep_operations.specs.Views.{segment_in, uploads_looked_up}
-use Rattle.dep_operations.proofs.touched.touches.Goals as goal
+use Rattle.dep_views.proofs.touching.touches.Goals as goal
 
 pub returns : goal.returns
 returns c = record {

@@ -4,9 +4,9 @@ use Rattle.std.specs.List.{cons_option}
 use Rattle.dep_docs_in.specs.declared.reference.Pointed.{Pointed}
 use Rattle.dep_decisions.specs.Decisions.{upload_number}
 use Rattle.dep_operations.specs.Views.{uploads_named}
-use Rattle.dep_operations.proofs.Checked.{named_more}
-use Rattle.dep_operations.proofs.touched.uploads_named.Goals as goal
-use Rattle.dep_operations.proofs.touched.uploads_named.Goals.{in-Upload+in_ok-push, in_default}
+use Rattle.dep_views.proofs.Naming.{named_more}
+use Rattle.dep_views.proofs.touching.uploads_named.Goals as goal
+use Rattle.dep_views.proofs.touching.uploads_named.Goals.{in-Upload+in_ok-push, in_default}
 
 pub loop-reference-preserved : goal.loop-reference-preserved
 loop-reference-preserved c =
