@@ -11,7 +11,7 @@ use Rattle.dep_schema.specs.OpenTables.{HoldsNone}
 use Rattle.dep_schema.specs.States.{StoreRepresents, IsLeftAs, DatabaseLeaves}
 use Rattle.dep_store.specs.Migrating.{KeepsDatabase}
 use Rattle.dep_store.specs.declared.archive.HashingStore.{HashingStore}
-use Rattle.dep_reserve.specs.declared.reserved_archive.ReservedArchive.{ReservedArchive}
+use Rattle.dep_commands.specs.declared.reserved_archive.ReservedArchive.{ReservedArchive}
 use Rattle.dep_application.specs.declared.logged_reserve.LoggedReserve.{LoggedReserve}
 use Rattle.dep_commands.specs.Starting.{IsOpened, OpeningLeaves}
 use Rattle.dep_commands.specs.Reserved.{reserved_call_log, reserved_condition}

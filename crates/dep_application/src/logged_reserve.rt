@@ -1,9 +1,9 @@
 //! The reserve of a host, of which the log tells.
 
 use crate::hosting::HostOptions;
+use dep_commands::{FileReserve, Reserve};
 use dep_configuration::{ReserveState, reserve_line};
 use dep_program::moment_of;
-use dep_reserve::{FileReserve, Reserve};
 use std::io::Write;
 use std::mem;
 use std::time::SystemTime;

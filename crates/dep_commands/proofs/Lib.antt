@@ -1,3 +1,4 @@
+mod ReservedLemmas
 pub mod ReportLemmas
 pub mod LineLemmas
 pub mod Exported

@@ -3,6 +3,7 @@ pub mod Audits
 pub mod Reporting
 pub mod Working
 pub mod Starting
+pub mod Reserving
 pub mod Reserved
 pub mod Replays
 pub mod Databases

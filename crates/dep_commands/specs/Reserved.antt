@@ -3,7 +3,7 @@ use Rattle.sqlite_trees.specs.declared.store.Store.{Ghosts}
 use Rattle.dep_types.specs.Conditions.{Condition}
 use Rattle.dep_store.specs.HashingStores as store
 use Rattle.dep_store.specs.declared.archive.HashingStore.{HashingStore}
-use Rattle.dep_reserve.specs.declared.reserved_archive.ReservedArchive.{ReservedArchive}
+use Rattle.dep_commands.specs.declared.reserved_archive.ReservedArchive.{ReservedArchive}
 use Rattle.dep_exchange.specs.ArchiveCalls.{CallLog}
 
 -- how a store with a reserve stands: as without one

@@ -1,14 +1,18 @@
 //! What an operator has done with a whole database, and how it ends: a hub is opened over it and serves, the bag of an
 //! object is given to a sink, the files of all objects are checked; and work on a database in a file, which is closed
-//! behind it.
+//! behind it. A hub may have a reserve: room on its disk that is given up where a step fails, so that a full disk stops
+//! deposits, and never reads and deletions.
 #![tactic(auto)]
 
 mod audit_fault;
 mod examination;
 mod exporting;
+mod file_reserve;
 mod lines;
 mod replaying;
 mod reporting;
+mod reserve;
+mod reserved_archive;
 mod reserved_hub;
 mod service;
 mod starting;
@@ -17,8 +21,11 @@ mod working;
 
 pub use examination::{audit_database, export_database};
 pub use exporting::export_object;
+pub use file_reserve::FileReserve;
 pub use replaying::{replay, replay_gathered};
 pub use reporting::audit_all;
+pub use reserve::Reserve;
+pub use reserved_archive::ReservedArchive;
 pub use reserved_hub::open_reserved_hub;
 pub use service::serve_database;
 pub use starting::{StartFault, check_config, close_hub, open_hub};

@@ -7,10 +7,11 @@ ghost use Rattle.dep_store.specs.Migrating.{KeepsDatabase};
 ghost use Rattle.dep_commands.specs.Starting.{IsGivenOrStore, IsOpened, OpeningLeaves, RefusesConfig};
 ghost use Rattle.dep_commands.specs.Reserved.{reserved_condition};
 
+use crate::reserve::Reserve;
+use crate::reserved_archive::ReservedArchive;
 use crate::starting::{StartFault, check_config};
 use dep_exchange::Archive;
 use dep_hub::{Hub, HubFault};
-use dep_reserve::{Reserve, ReservedArchive};
 use dep_schema::OpenFault;
 use dep_store::{HashingStore, Store, Unwatched};
 use dep_types::Config;

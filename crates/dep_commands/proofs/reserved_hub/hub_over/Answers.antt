@@ -1,6 +1,6 @@
 use Rattle.std.proofs.Common.{◌∙◌, ap, sym, subst}
 use Rattle.dep_hub.specs.Representing.{GoesOnFrom}
-use Rattle.dep_reserve.specs.declared.reserved_archive.ReservedArchive.{ReservedArchive}
+use Rattle.dep_commands.specs.declared.reserved_archive.ReservedArchive.{ReservedArchive}
 use Rattle.dep_commands.proofs.reserved_hub.hub_over.Goals as goal
 
 pub returns-in-Ok : goal.returns-in-Ok

@@ -4,8 +4,8 @@ use Rattle.dep_fields.specs.Fit.{AreFit}
 use Rattle.dep_answers.specs.Performing.{IsReady}
 use Rattle.dep_answers.specs.Steps.{operation_step}
 use Rattle.dep_exchange.specs.Archives.{MakesStep}
-use Rattle.dep_reserve.proofs.ReservedLemmas.{fails_unasked}
-use Rattle.dep_reserve.proofs.reserved_archive.ReservedArchiveArchive.perform.Goals as goal
+use Rattle.dep_commands.proofs.ReservedLemmas.{fails_unasked}
+use Rattle.dep_commands.proofs.reserved_archive.ReservedArchiveArchive.perform.Goals as goal
 
 pub returns-then-turns_away-clause-does : goal.returns-then-turns_away-clause-does
 returns-then-turns_away-clause-does g c =

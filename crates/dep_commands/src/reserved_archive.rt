@@ -6,7 +6,7 @@ ghost use Rattle.dep_fields.specs.Fit.{AreFit};
 ghost use Rattle.dep_answers.specs.Steps.{operation_step};
 ghost use Rattle.dep_exchange.specs.Archives.{Ticks, MakesStep, FallsDue, FailsIfShut, KeepsState, CountsFailures};
 ghost use Rattle.dep_exchange.specs.Owing.{Begins, StreamsOn, TakesFew};
-ghost use Rattle.dep_reserve.specs.Reserving.{brings_content, is_low, turns_away};
+ghost use Rattle.dep_commands.specs.Reserving.{brings_content, is_low, turns_away};
 
 use crate::reserve::Reserve;
 use dep_answers::{Performed, Service, StoredFile};
