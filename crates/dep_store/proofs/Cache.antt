@@ -1,11 +1,13 @@
 -- What is cached of each state for which a database stands: the clock that a tick returns, and the reply to a request for the
 -- service document.
-use Rattle.std.proofs.Common.{◌≡◌, ◌∙◌, ℕ, min, Option, Some, None, Result, Ok, Err, IfOk, sym, ap, subst}
+use Rattle.std.proofs.Common.{◌≡◌, ◌∙◌, ℕ, min, Option, Some, None, Result, Ok, Err, IfOk, IsTrue, false, true, refl, sym, ap, subst}
+use Rattle.std.specs.Prelude.{is_some}
 use Rattle.dep_types.specs.Limits.{greatest_moment}
 use Rattle.dep_types.specs.State.{State, tick}
 use Rattle.dep_types.specs.declared.config.Config.{Config}
 use Rattle.dep_decisions.specs.declared.operation.Operation.{Operation}
 use Rattle.sqlite.specs.State as db
+use Rattle.sqlite.specs.State.{HasCleanDisk}
 use Rattle.dep_types.specs.Sound.{IsSound}
 use Rattle.dep_types.proofs.TickSound.{keeps_sound}
 use Rattle.dep_fields.specs.Fit.{AreFit}
@@ -20,6 +22,8 @@ use Rattle.dep_store.proofs.Carrying.{shown_whole}
 use Rattle.dep_requests.specs.declared.caching.Cache.{Cache}
 use Rattle.dep_requests.specs.Caching.{Covers, IsCacheOf}
 use Rattle.dep_requests.proofs.CacheLemmas.{none_is, cached_tick}
+use Rattle.dep_schema.proofs.Transacting.{stood_before}
+use Rattle.dep_store.specs.ReadTransactions.{ReadsOpen}
 use Rattle.dep_store.specs.Caching.{IsCached, IsReadOf, MayCache, IsOfOpen, IsKnownFile}
 
 -- the clock that is cached is that of the tick
@@ -33,6 +37,17 @@ clock_made d t config moment m shown represents is_cache is s means =
       shown_whole m.clock (tick config s moment).clock shown is same (keeps_sound config s moment means.sound).clock,
       subst (TablesRepresent t) (sym still) means,
     )
+
+-- what was read may be cached of each state for which the database still stands
+pub may_cache : {E : Type 0} (old new : db.State) (config : Config) (moment : ℕ) (found : Option Cache) → (IsTrue new.is_open → HasCleanDisk new) → old.in_transaction ≡ false
+    → ReadsOpen {E = E} old new (λ result s. IfOk result (MayCache config moment s)) (Ok found) → (s : State) → StoreRepresents new s → MayCache config moment s found
+may_cache old new config moment found clean between did s represents =
+    did.reports (clean represents.represents.is_open) s (stood_before old new did.finds.restored.back between s represents)
+
+-- where something is cached, the store is open
+pub open_if_cached : (d : db.State) (m : Option Cache) → IsOfOpen d m → true ≡ is_some m → HasCleanDisk d → IsTrue d.is_open
+open_if_cached d (Some one) opened some clean = opened one refl clean
+open_if_cached d None opened some clean = cc some
 
 -- nothing is cached
 pub forgotten : (d : db.State) → IsCached d None × IsOfOpen d None × IsKnownFile d None

@@ -1,8 +1,10 @@
 -- What the calls make of the state that the tables represent.
-use Rattle.std.proofs.Common.{◌≡◌, ℕ, ◌≤◌, min, Option, Some, None, Result, Ok, Err, IfOk, OnOk, OnErr, inl, IsTrue, true, refl, sym, ap, subst, arith}
+use Rattle.std.proofs.Common.{◌≡◌, ℕ, ◌≤◌, min, Option, Some, None, Result, Ok, Err, IfOk, IfErr, OnOk, OnErr, inl, IsTrue, true, refl, sym, ap, subst, arith}
 use Rattle.std.specs.FinMap as map
+use Rattle.std.specs.Prelude.{⊤}
+use Rattle.std.specs.Result.{result_and}
 use Rattle.sqlite.specs.State as db
-use Rattle.sqlite.specs.State.{HasCleanDisk, IsUnchanged}
+use Rattle.sqlite.specs.State.{HasCleanDisk, IsUnchanged, Commits, Survives}
 use Rattle.sqlite.specs.Effect.{Database}
 use Rattle.sqlite.specs.Held.{Held, state}
 use Rattle.sqlite.specs.declared.transaction.Transaction.{Transaction}
@@ -11,6 +13,7 @@ use Rattle.dep_types.specs.State.{State, Upload, tick}
 use Rattle.dep_types.specs.Sound.{IsSound}
 use Rattle.dep_types.specs.Limits.{greatest_moment}
 use Rattle.dep_types.specs.declared.config.Config.{Config}
+use Rattle.dep_types.specs.declared.store_fault.StoreFault.{StoreFault}
 use Rattle.dep_types.proofs.TickSound.{keeps_sound}
 use Rattle.dep_tables.specs.Schema.{our_schema}
 use Rattle.dep_tables.specs.Tables.{Tables, tables_in, tables_of, HasOurTables, IsOurs}
@@ -19,11 +22,11 @@ use Rattle.dep_row_maps.specs.Clauses.{FromMaps}
 use Rattle.dep_files.specs.Reading.{StaysOrRollsBack}
 use Rattle.dep_tables.specs.Clauses.{ReadsWithin}
 use Rattle.dep_schema.specs.OpenTables.{StaysFile}
-use Rattle.dep_schema.proofs.Transacting.{IsMade}
+use Rattle.dep_schema.proofs.Transacting.{IsMade, Works, began_open, committed, uncommitted}
 use Rattle.dep_schema.specs.States.{StoreRepresents}
-use Rattle.dep_schema.specs.Transactions.{OnlyReports, OverStates}
+use Rattle.dep_schema.specs.Transactions.{FailsToEnd, OnlyReports, OverStates}
 use Rattle.dep_store.specs.ReadTransactions.{ReportsFrom}
-use Rattle.dep_store.specs.Tasks.{MakesTables}
+use Rattle.dep_store.specs.Tasks.{MakesTables, TransactsIfOpen}
 use Rattle.dep_store.proofs.Migrated.{represents_same, tables_kept}
 
 -- no upload of a sound state has the number 0
@@ -92,6 +95,20 @@ pub made_inside : {S A : Type 0} (g : Ghosts S) (old begun : Held S) (inside las
 made_inside g old begun inside last makes answer is left made =
     subst (λ (tx : Transaction _). IsMade our_schema our_schema g old tx.conn.now makes answer) left
     (λ clean. subst (λ (h : Held _). IsTrue (state g h).in_transaction → IsOurs (state g h) → IsOurs (state g inside.conn.now) × makes (tables_of (state g h)) answer (tables_of (state g inside.conn.now))) is (made clean) refl)
+
+-- it was committed, or its commit failed
+module _ {S A : Type 0} (g : Ghosts S) (old inside new last : Held S) (makes : Tables → A → Tables → Type 0) (answer : A) where
+  pub ended_by : (r : Result ⊤ StoreFault) → Works g old inside new → IsMade our_schema our_schema g old inside makes answer → (HasCleanDisk (state g inside) → IsTrue (state g inside).in_transaction)
+      → (HasCleanDisk (state g new) → OnOk r (Commits (state g inside) (state g new))) → (HasCleanDisk (state g new) → IfErr r (FailsToEnd (state g inside) (state g new)))
+      → Survives (state g inside) (state g new) (λ trees. trees ≡ (state g inside).now.trees) → new ≡ last → TransactsIfOpen (state g old) (state g last) (result_and r (Ok answer)) makes
+  ended_by (Ok ended) work made goes_on commits fails survives same = record {
+    transacts = committed g old inside new makes answer work made commits survives last same;
+    opened = began_open g old inside new work commits survives last same;
+  }
+  ended_by (Err fault) work made goes_on commits fails survives same = record {
+    transacts = uncommitted g old inside new makes answer fault work made goes_on fails survives last same;
+    opened = λ clean. tt;
+  }
 
 -- ---- what reads alone, outside a transaction
 

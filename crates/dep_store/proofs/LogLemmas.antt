@@ -1,5 +1,5 @@
 -- When a commit of work ahead is due.
-use Rattle.std.proofs.Common.{◌≡◌, ◌⊎◌, ◌∙◌, inl, inr, zero, suc, Bool, true, false, Option, None, Some, Ok, if◌then◌else◌, refl, sym, ap}
+use Rattle.std.proofs.Common.{◌≡◌, ◌⊎◌, ◌∙◌, inl, inr, zero, suc, Bool, true, false, Option, None, Some, Ok, if◌then◌else◌, refl, sym, ap, subst}
 use Rattle.std.specs.Prelude.{not, ◌&&◌, ◌||◌, is_some, nat_le, length}
 use Rattle.dep_types.specs.Conditions.{Condition}
 use Rattle.dep_types.specs.Methods.{is_safe}
@@ -34,7 +34,11 @@ copy_commits (DueAfter zero) old new e = inr refl
 copy_commits (DueAfter (suc calls)) old new e = cc
 
 -- a call that left all as it was
-pub call_commits : (log : LogCopy) (old new : Condition) → KeepsAll old new → CommitsIfDue (has_call log) (has_call (after_call log)) old new
+call_commits : (log : LogCopy) (old new : Condition) → KeepsAll old new → CommitsIfDue (has_call log) (has_call (after_call log)) old new
 call_commits NotDue old new keeps = (keeps, refl)
 call_commits (DueAfter zero) old new keeps = inl keeps
 call_commits (DueAfter (suc calls)) old new keeps = inl keeps
+
+-- and had no copy to make
+pub ahead_commits : (log later : LogCopy) (old new : Condition) → later ≡ after_call log → KeepsAll old new → CommitsIfDue (has_call log) (has_call later) old new
+ahead_commits log later old new counted keeps = subst (λ (l : LogCopy). CommitsIfDue (has_call log) (has_call l) old new) (sym counted) (call_commits log old new keeps)

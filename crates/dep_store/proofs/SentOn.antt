@@ -2,7 +2,8 @@
 use Rattle.std.proofs.Common.{◌≡◌, ◌≢◌, ◌∙◌, ℕ, ◌+◌, ◌≤◌, arith, List, [], ◌++◌, length, drop, Option, Some, None, Result, Ok, Err, OnOk, OnErr, IsErr, IsTrue, refl, sym, ap, subst, append_assoc, append-nil}
 use Rattle.std.proofs.KnownBytes.{Appends-nil}
 use Rattle.std.proofs.lemmas.List.{drop_all, length-append}
-use Rattle.std.specs.Prelude.{option_map}
+use Rattle.std.specs.Prelude.{⊤, option_map}
+use Rattle.std.specs.Result.{result_and}
 use Rattle.std.specs.Io.KnownBytes.{Appends}
 use Rattle.sqlite.specs.State as db
 use Rattle.sqlite.specs.State.{HasCleanDisk}
@@ -14,12 +15,13 @@ use Rattle.dep_types.specs.declared.stream_fault.StreamFault.TheVariants.{Writer
 use Rattle.dep_answers.specs.declared.performed.StoredFile.{StoredFile}
 use Rattle.dep_staging.specs.NextBytes.{IsNextIn}
 use Rattle.dep_schema.specs.States.{StoreRepresents}
-use Rattle.dep_schema.specs.Transactions.{IsRestored}
+use Rattle.dep_schema.specs.Transactions.{FindsOpen, IsRestored}
 use Rattle.dep_schema.proofs.Transacting.{IsSettled, back_then, leaves_still, none_then}
 use Rattle.dep_exchange.specs.Archives.{KeepsState}
 use Rattle.dep_exchange.specs.Owing.{HasBehind, IsPrefixBehind, IsSentOn, StreamsOn, TakesFew}
 use Rattle.dep_store.specs.Archive.{shown_by}
 use Rattle.dep_store.specs.Caching.{HasSize}
+use Rattle.dep_store.specs.ReadTransactions.{ReadsOpen}
 use Rattle.dep_store.specs.SendingOn.{AreFew, GivesNext}
 use Rattle.dep_store.specs.Shut.{StaysOpen}
 use Rattle.dep_store.proofs.ShutLemmas.{state_back, was_open_then}
@@ -112,6 +114,16 @@ restored_then old mid new one two = record {
   mode = two.mode;
   survives = none_then old mid new one.survives two.survives;
 }
+
+-- what was read, and then a look whether the store is open
+pub read_open : {A E : Type 0} (old mid new : db.State) (r : Result ⊤ E) (answer : A) (reported : Result A E → State → Type 0)
+    → (IsTrue mid.is_open → (s : State) → StoreRepresents old s → reported (Ok answer) s) → IsRestored old mid → FindsOpen mid new r → ReadsOpen old new reported (result_and r (Ok answer))
+read_open old mid new (Ok is_open) answer reported reports restored found = record {
+  reports = λ clean s represents. reports (found.restored.back (found.opened clean)).0 s represents;
+  finds = record { opened = found.opened; restored = restored_then old mid new restored found.restored };
+}
+read_open old mid new (Err fault) answer reported reports restored found =
+    record { reports = tt; finds = record { opened = λ clean. tt; restored = restored_then old mid new restored found.restored } }
 
 -- what was given back over a store that is open, whatever is returned then
 module _ (old new : db.State) (restored : IsRestored old new) (opened : HasCleanDisk new → IsTrue new.is_open) where

@@ -1,6 +1,7 @@
 -- A store that a fault shut: what fails on it, and what stands again once a statement was given back.
-use Rattle.std.proofs.Common.{◌≡◌, ◌∙◌, ℕ, List, [], Result, Ok, Err, OnOk, IsErr, MatchResult, codes, refl, IsTrue, inl, inr, sym, ap, subst, length, le_of_eq}
+use Rattle.std.proofs.Common.{◌≡◌, ◌∙◌, ℕ, List, [], Bool, Result, Ok, Err, OnOk, IfOk, IfErr, IsErr, MatchResult, codes, refl, IsTrue, inl, inr, sym, ap, subst, length, le_of_eq}
 use Rattle.std.proofs.lemmas.Result.{IfOk-from_err}
+use Rattle.std.specs.Prelude.{⊤}
 use Rattle.sqlite.specs.State as db
 use Rattle.sqlite.specs.State.{HasCleanDisk, Survives, IsNotRun, store_error}
 use Rattle.sqlite.specs.declared.error.ErrorCode.TheVariants as code
@@ -9,11 +10,14 @@ use Rattle.sqlite.specs.declared.error.Error.TheVariants.{SqliteFailure}
 use Rattle.sqlite_trees.specs.declared.error.StoreError.{StoreError}
 use Rattle.sqlite_trees.specs.declared.error.StoreError.TheVariants.{OutOfMemory, Io, Corrupt, Full, Broken, Unstorable}
 use Rattle.dep_types.specs.State.{State}
+use Rattle.dep_types.specs.declared.store_fault.StoreFault.{StoreFault}
+use Rattle.dep_exchange.specs.Shut.{ReportsOpen}
+use Rattle.dep_store.specs.Archive.{shown_by}
 use Rattle.sqlite.specs.Schema.{Schema}
 use Rattle.dep_schema.specs.States.{StoreRepresents}
 use Rattle.dep_schema.specs.Transactions.{IsBackAt, IsRestored}
 use Rattle.dep_schema.proofs.Transacting.{tables_back}
-use Rattle.dep_store.specs.Shut.{StoreLeavesNoMore, StoreFailsIfShut, StaysOpen}
+use Rattle.dep_store.specs.Shut.{IsReported, StoreFailsToReport, StoreLeavesNoMore, StoreFailsIfShut, StaysOpen}
 use Rattle.sqlite.specs.Listing.{understood}
 use Rattle.sqlite_tied.specs.Compute.{everything}
 use Rattle.sqlite_resolve.specs.declared.compiled.Compiled.{Compiled}
@@ -110,3 +114,19 @@ fails_alone old new e (inl (none, unchanged)) = absurd (elim none [
         ]
       ]
 ])
+
+-- what it says of the store that a statement was to be prepared
+module _ (old new : db.State) (clean_now : IsTrue new.is_open → HasCleanDisk new) where
+  pub tells_open : (probed : Result ⊤ Error) (result : Result Bool StoreFault) → IsReported probed result → (HasCleanDisk new → OnOk probed (IsTrue new.is_open))
+      → (HasCleanDisk new → IfErr probed (IsNotRun old new (codes "SELECT 1") [])) → IfOk result (ReportsOpen (shown_by new))
+  tells_open (Ok prepared) result is opened cause = subst (λ (r : Result Bool StoreFault). IfOk r (ReportsOpen (shown_by new))) (sym is) opened
+  tells_open (Err e) result (inl (closed, is)) opened cause = subst (λ (r : Result Bool StoreFault). IfOk r (ReportsOpen (shown_by new))) (sym is)
+      (λ is_open. closed_if_shut old new _ e (cause (clean_now is_open)) closed is_open)
+  tells_open (Err e) result (inr (other, is)) opened cause = subst (λ (r : Result Bool StoreFault). IfOk r (ReportsOpen (shown_by new))) (sym is) tt
+
+  pub tells_why : (probed : Result ⊤ Error) (result : Result Bool StoreFault) → IsReported probed result
+      → (HasCleanDisk new → IfErr probed (IsNotRun old new (codes "SELECT 1") [])) → HasCleanDisk new → IfErr result (StoreFailsToReport old new)
+  tells_why (Ok prepared) result is cause clean = subst (λ (r : Result Bool StoreFault). IfErr r (StoreFailsToReport old new)) (sym is) tt
+  tells_why (Err e) result (inl (closed, is)) cause clean = subst (λ (r : Result Bool StoreFault). IfErr r (StoreFailsToReport old new)) (sym is) tt
+  tells_why (Err e) result (inr (other, is)) cause clean =
+      subst (λ (r : Result Bool StoreFault). IfErr r (StoreFailsToReport old new)) (sym is) (inr (e, fails_alone old new e (cause clean), other, refl))

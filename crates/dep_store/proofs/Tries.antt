@@ -1,5 +1,5 @@
 -- What a call on a store comes to, as those who serve it see it, from what it makes of the tables.
-use Rattle.std.proofs.Common.{◌≡◌, ℕ, List, [], Option, inl, inr, Result, Ok, Err, IsErr, OnOk, OnErr, IfOk, IsTrue, false, refl, le_of_eq, sym, subst, arith, ◌∙◌}
+use Rattle.std.proofs.Common.{◌≡◌, ℕ, List, [], Bool, true, not, Option, inl, inr, Result, Ok, Err, IsErr, OnOk, OnErr, IfOk, IsTrue, false, refl, le_of_eq, sym, subst, arith, ◌∙◌}
 use Rattle.std.proofs.KnownBytes.{Appends-nil}
 use Rattle.std.proofs.lemmas.Result.{IfOk-from_err}
 use Rattle.sqlite.specs.State as db
@@ -11,7 +11,6 @@ use Rattle.dep_types.specs.declared.stream_fault.StreamFault.{StreamFault}
 use Rattle.dep_types.specs.declared.stream_fault.StreamFault.TheVariants.{Writer, Store as StoreFails}
 use Rattle.dep_tables.specs.Tables.{Tables}
 use Rattle.dep_tables.proofs.Results.{if_failed}
-use Rattle.dep_staging.specs.declared.running.RunningHashes.{RunningHashes}
 use Rattle.dep_files.specs.Faults.{BlamesOutlet}
 use Rattle.dep_schema.specs.OpenTables.{Holds, StaysFile}
 use Rattle.dep_schema.specs.States.{TablesRepresent, StoreRepresents, DatabaseLeaves}
@@ -20,9 +19,17 @@ use Rattle.dep_schema.proofs.Transacting.{IsSettled, IsOver, ok_over_states, err
 use Rattle.dep_exchange.specs.Archives.{TriesTo, Ticks, Reports, KeepsState, KeepsAll, Always, CountsFailures}
 use Rattle.dep_store.specs.Archive.{shown_by}
 use Rattle.dep_store.specs.Shut.{StoreFailsIfShut, StoreSendsFile}
-use Rattle.dep_schema.specs.Performing.{KeepsRunning}
-use Rattle.dep_store.specs.Staying.{ReportsTables, KeepsTables, LeavesOnly, HashesOn}
+use Rattle.dep_store.specs.Staying.{ReportsTables, KeepsTables, LeavesOnly}
 use Rattle.dep_store.proofs.ShutLemmas.{state_back}
+
+-- between transactions each statement is committed by itself
+pub is_settled : (mode : Bool) → true ≡ not mode → mode ≡ false
+is_settled true reported = cc reported
+is_settled false reported = refl
+
+pub is_busy : (mode : Bool) → false ≡ not mode → IsTrue mode
+is_busy true reported = refl
+is_busy false reported = cc reported
 
 -- what a stop leaves of a state whose tables stay
 pub leaves_held : (d : db.State) {tables : Tables} (s : State) → TablesRepresent tables s
@@ -142,7 +149,7 @@ counts failures failures_after r it = record { kept = it.kept; cause = it.cause;
 -- ---- where a transaction is under way, so that the connection represents nothing
 
 module _ (d : db.State) (busy : IsTrue d.in_transaction) where
-  represents_not : (t : Tables) → StaysFile d t → ⊥
+  pub represents_not : (t : Tables) → StaysFile d t → ⊥
   represents_not t represents = absurd (let never = sym busy ∙ represents.settled in cc never)
 
   pub busy_tries : {A E : Type 0} {holds : State → Type 0} {reported : State → A → Type 0} {next : State → State} (r : Result A E) → IsErr r → TriesTo (shown_by d) (shown_by d) holds reported next r
@@ -199,8 +206,3 @@ keeps_then old mid new kept one two = record {
   was_open = λ is_open. one.was_open (two.was_open is_open);
   stop = λ clean s h. two.stop clean s (represents_still s h (kept (two.honest clean) h.tables h.represents));
 }
-
--- what was hashed ahead is so, and all was given back
-pub hashes_on : (old new : db.State) (running_before running : RunningHashes) → KeepsRunning old new running_before running → IsRestored old new
-    → HashesOn old new running_before running
-hashes_on old new running_before running keeps it = record { running = keeps; rests = keeps_back old new it; left = leaves_only old new it.survives }

@@ -1,12 +1,11 @@
 -- What a store caches of the state for which it stands.
-use Rattle.std.specs.Prelude.{◌≡◌, ◌≤◌, ℕ, length, Option, Some, IsTrue, Result, IfOk}
+use Rattle.std.specs.Prelude.{◌≡◌, ◌≤◌, ℕ, length, Option, Some, IsTrue}
 use Rattle.sqlite.specs.State as db
 use Rattle.dep_types.specs.State.{State, File, file_at}
 use Rattle.dep_types.specs.declared.config.Config.{Config}
 use Rattle.dep_answers.specs.declared.performed.StoredFile.{StoredFile}
 use Rattle.dep_requests.specs.declared.caching.Cache.{Cache}
 use Rattle.dep_schema.specs.States.{StoreRepresents}
-use Rattle.dep_schema.specs.Transactions.{FindsOpen}
 use Rattle.dep_requests.specs.Caching.{IsCacheOf}
 
 -- what is cached is that of each state for which the database stands
@@ -25,12 +24,6 @@ IsReadOf config moment s m =
 -- so is what may be cached
 abbrev pub MayCache : Config → (moment : ℕ) → State → Option Cache → Type 0
 MayCache config moment s found = (m : Cache) → found ≡ Some m → IsReadOf config moment s m
-
--- what may be cached is read, and nothing changed
-pub record LoadsCache {E : Type 0} (old new : db.State) (config : Config) (moment : ℕ)
-    (result : Result (Option Cache) E) : Type 0 where
-  pub is_cache : (s : State) → StoreRepresents new s → IfOk result (MayCache config moment s)
-  pub finds : FindsOpen old new result
 
 -- ---- a content that is sent
 

@@ -1,5 +1,5 @@
 -- What a call on a store that a fault shut leaves, and why it isn't known whether one was.
-use Rattle.std.specs.Prelude.{◌≡◌, ◌≢◌, ◌⊎◌, ℕ, Bool, List, Option, IsTrue, Result, IfOk, IfErr, OnOk}
+use Rattle.std.specs.Prelude.{◌≡◌, ◌≢◌, ◌⊎◌, ⊤, ℕ, Bool, true, false, List, Option, IsTrue, Result, Ok, Err, OnOk}
 use Rattle.sqlite.specs.State as db
 use Rattle.sqlite.specs.Tree.{Trees}
 use Rattle.sqlite.specs.declared.error.Error.{Error}
@@ -10,9 +10,8 @@ use Rattle.dep_types.specs.declared.store_fault.StoreFault.TheVariants.{Store}
 use Rattle.dep_types.specs.declared.stream_fault.StreamFault.{StreamFault}
 use Rattle.dep_types.specs.declared.config.Config.{Config}
 use Rattle.dep_tables.specs.Faults.{fault_for}
-use Rattle.dep_schema.specs.Transactions.{IsBackAt, IsRestored}
+use Rattle.dep_schema.specs.Transactions.{IsBackAt}
 use Rattle.dep_exchange.specs.Archives.{Ticks, Streams, KeepsState, CountsFailures}
-use Rattle.dep_exchange.specs.Shut.{ReportsOpen}
 use Rattle.dep_store.specs.Archive.{shown_by}
 
 -- where the store was shut, and the disk has told no lie that was taken as true, a crash leaves
@@ -53,8 +52,9 @@ StoreFailsToReport old new fault =
     (IsTrue old.in_transaction × (fault ≡ Store))
     ⊎ ((e : Error) × db.Fails old new ⊥ e × (e ≢ SqliteFailure Closed) × (fault ≡ fault_for e))
 
--- nothing changes, and it is returned, or there is a cause why it isn't
-pub record AsksIfOpen (old new : db.State) (result : Result Bool StoreFault) : Type 0 where
-  pub reported : IfOk result (ReportsOpen (shown_by new))
-  pub cause : db.HasCleanDisk new → IfErr result (StoreFailsToReport old new)
-  pub restored : IsRestored old new
+-- a statement was prepared, so the store is open; or it was shut; or another error is why that isn't known
+abbrev pub IsReported : Result ⊤ Error → Result Bool StoreFault → Type 0
+IsReported (Ok prepared) result = result ≡ Ok true
+IsReported (Err error) result =
+    ((error ≡ SqliteFailure Closed) × (result ≡ Ok false))
+    ⊎ ((error ≢ SqliteFailure Closed) × (result ≡ Err (fault_for error)))

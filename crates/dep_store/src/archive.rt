@@ -3,7 +3,6 @@
 
 ghost use Rattle.std.specs.Prelude.{◌≡◌, false, is_some, IsTrue};
 ghost use Rattle.sqlite.proofs.StateLemmas.{clean_if_open};
-ghost use Rattle.sqlite.specs.Held.{state};
 ghost use Rattle.dep_types.specs.State.{State};
 ghost use Rattle.dep_staging.specs.HashedAhead.{AreRunning};
 ghost use Rattle.dep_schema.proofs.Transacting.{leaves_as_was};
@@ -11,7 +10,6 @@ ghost use Rattle.dep_exchange.specs.ArchiveCalls.{Runs, WorkedAhead};
 ghost use Rattle.dep_exchange.specs.Archives.{CommitsIfDue, KeepsEachState};
 ghost use Rattle.dep_store.specs.HashingStores.{call_log_of, condition_with_hashes, may_commit};
 ghost use Rattle.dep_store.specs.LogCopies.{after_call};
-ghost use Rattle.dep_store.specs.Staying.{HashesOn};
 
 use crate::log_copy::LogCopy;
 use crate::store::Store;
@@ -59,26 +57,6 @@ impl<S: Alter> HashingStore<S> {
         ensures { result ≡ self.store }
     {
         self.store.close()
-    }
-
-    /// Hashes a part of what the request that waits needs, or, where none does, of an upload that one may name later. Returns
-    /// whether more may be left.
-    fn hash(&mut self, service: &Service, next: Option<&Operation<'_>>) -> bool
-        ensures hashes { HashesOn (state S.Store self.old.store) (state S.Store self.new.store)
-            self.old.running self.new.running }
-        ensures log_copy { self.new.log_copy ≡ self.old.log_copy }
-    {
-        if let Some(operation) = next {
-            let hashed = self
-                .store
-                .hash_for(&mut self.running, service.config(), operation);
-            return matches!(hashed, Ok(true));
-        }
-        if !self.is_due {
-            return false;
-        }
-        self.is_due = matches!(self.store.hash_ahead(&mut self.running), Ok(true));
-        self.is_due
     }
 }
 
@@ -147,6 +125,8 @@ impl<S: Alter> Archive for HashingStore<S> {
         self.store.is_open()
     }
 
+    /// Hashes a part of what the request that waits needs, or, where none does, of an upload that one may name later, unless
+    /// the log is to be copied first.
     fn work_ahead(&mut self, service: &Service, next: Option<&Operation<'_>>) -> bool
         ensures asked { Runs (WorkedAhead result)
             (call_log_of S.Store self.old) (call_log_of S.Store self.new) }
@@ -163,10 +143,20 @@ impl<S: Alter> Archive for HashingStore<S> {
             return self.is_due | next.is_some();
         }
         // Who waited through the request is answered first.
-        if self.log_copy.is_left() {
+        if matches!(self.log_copy, LogCopy::DueAfter(_)) {
             return true;
         }
-        self.hash(service, next)
+        if let Some(operation) = next {
+            let hashed = self
+                .store
+                .hash_for(&mut self.running, service.config(), operation);
+            return hashed.unwrap_or(false);
+        }
+        if !self.is_due {
+            return false;
+        }
+        self.is_due = self.store.hash_ahead(&mut self.running).unwrap_or(false);
+        self.is_due
     }
 
     ghost honest_if_open = { λ archive is_open.

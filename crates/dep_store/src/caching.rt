@@ -1,18 +1,13 @@
-//! What a store caches is read, and whether it is open.
+//! What a store caches, and whether it is open, by a statement that was to be prepared.
 
-ghost use Rattle.std.specs.Prelude.{◌≡◌, ◌≢◌, false, IfOk, IfErr};
-ghost use Rattle.sqlite.specs.Held.{state};
-ghost use Rattle.dep_tables.specs.Faults.{fault_for};
-ghost use Rattle.dep_store.specs.Caching.{LoadsCache};
-ghost use Rattle.dep_store.specs.Shut.{AsksIfOpen};
+ghost use Rattle.dep_store.specs.Shut.{IsReported};
 
-use crate::read_transaction::{ReadTransaction, read_if_open};
+use crate::read_transaction::ReadTransaction;
 use dep_answers::StoredFile;
 use dep_requests::{Cache, read_still};
-use dep_schema::probe;
 use dep_tables::{Statements, fault_of};
 use dep_types::{Config, StoreFault};
-use sqlite::{Alter, Connection, Error, ErrorCode};
+use sqlite::{Error, ErrorCode};
 
 /// What a store knows without a look at its tables. A call that may change them begins with nothing known.
 #[derive(Clone, Copy)]
@@ -29,35 +24,22 @@ impl Known {
     };
 }
 
-/// What the error of a statement means: that the store was shut, or why that isn't known.
-fn reported_by(error: Error) -> Result<bool, StoreFault>
-    ensures shut { IfOk result
-        (λ is_open. (is_open ≡ false) × (error ≡ Error.SqliteFailure ErrorCode.Closed)) }
-    ensures fault { IfErr result (λ fault. (fault ≡ fault_for error)
-        × (error ≢ Error.SqliteFailure ErrorCode.Closed)) }
+/// What it means whether a statement was prepared: that the store is open, that it was shut, or why that isn't known.
+pub(crate) fn reported_by(probed: Result<(), Error>) -> Result<bool, StoreFault>
+    ensures { IsReported probed result }
 {
-    match error {
-        Error::SqliteFailure(ErrorCode::Closed) => Ok(false),
-        other => Err(fault_of(other)),
-    }
-}
-
-/// Whether the store is open: a statement is prepared, which one that was shut refuses.
-pub(crate) fn report_open<S: Alter>(connection: &mut Connection<S>) -> Result<bool, StoreFault>
-    requires settled { (state S.Store connection.old).in_transaction ≡ false }
-    ensures { AsksIfOpen (state S.Store connection.old) (state S.Store connection.new) result }
-{
-    match probe(connection) {
+    match probed {
         Ok(()) => Ok(true),
-        Err(error) => reported_by(error),
+        Err(Error::SqliteFailure(ErrorCode::Closed)) => Ok(false),
+        Err(other) => Err(fault_of(other)),
     }
 }
 
 /// What may be cached, where a tick at this moment changes nothing.
 #[derive(Clone, Copy)]
-struct Still<'a> {
-    config: &'a Config,
-    moment: u64,
+pub(crate) struct Still<'a> {
+    pub(crate) config: &'a Config,
+    pub(crate) moment: u64,
 }
 
 impl<'a> ReadTransaction for Still<'a> {
@@ -71,17 +53,4 @@ impl<'a> ReadTransaction for Still<'a> {
     fn read<T: Statements>(&mut self, tx: &mut T) -> Result<Option<Cache>, StoreFault> {
         read_still(tx, self.config, self.moment)
     }
-}
-
-/// Reads what may be cached, where a tick at this moment changes nothing, and looks whether the store is open.
-pub(crate) fn look<S: Alter>(
-    connection: &mut Connection<S>,
-    config: &Config,
-    moment: u64,
-) -> Result<Option<Cache>, StoreFault>
-    requires settled { (state S.Store connection.old).in_transaction ≡ false }
-    ensures { LoadsCache (state S.Store connection.old) (state S.Store connection.new)
-        config.now moment result }
-{
-    read_if_open(connection, &mut Still { config, moment })
 }

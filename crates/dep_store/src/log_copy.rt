@@ -1,7 +1,7 @@
 //! When the log of a store is copied into its file.
 
 ghost use Rattle.std.specs.Prelude.{◌≡◌, ◌↔◌, ◌&&◌, if◌then◌else◌, is_some, not, IsTrue};
-ghost use Rattle.dep_store.specs.LogCopies.{writes_much, after_call, has_call};
+ghost use Rattle.dep_store.specs.LogCopies.{writes_much, after_call};
 
 use dep_answers::Performed;
 use dep_decisions::Operation;
@@ -59,12 +59,5 @@ impl LogCopy {
                 false
             }
         }
-    }
-
-    /// Whether a further call is to copy it.
-    pub fn is_left(&self) -> bool
-        ensures { result ≡ has_call self.now }
-    {
-        matches!(self, LogCopy::DueAfter(_))
     }
 }

@@ -33,16 +33,17 @@ pub(crate) trait ReadTransaction {
         ensures stays { StaysWithin T.lenders T.state tx.old tx.new result };
 }
 
-/// Reads it in a transaction of its own, which is given back.
+/// Reads it in a transaction of its own, which is given back. It fails where one is under way.
 pub(crate) fn read_in_transaction<S: Alter, K: ReadTransaction>(
     connection: &mut Connection<S>,
     what: &mut K,
 ) -> Result<K::Answer, StoreFault>
-    requires settled { (state S.Store connection.old).in_transaction ≡ false }
     ensures { GivesBack (state S.Store connection.old) (state S.Store connection.new)
         (K.reported what.old what.new result) }
 {
-    let _between = connection.is_autocommit();
+    if !connection.is_autocommit() {
+        return Err(StoreFault::Store);
+    }
     let mut tx = connection.transaction();
     let answer = what.read(&mut Lent { tx: &mut tx });
     tx.rollback();
@@ -59,8 +60,7 @@ pub(crate) fn read_if_open<S: Alter, K: ReadTransaction>(
         (K.reported what.old what.new) result }
 {
     let answer = read_in_transaction(connection, what)?;
-    check_open(connection)?;
-    Ok(answer)
+    check_open(connection).and(Ok(answer))
 }
 
 /// A few blocks of uploads are hashed, before an object is made of them. Returns whether more may be left.
@@ -80,26 +80,23 @@ impl ReadTransaction for RunningHashes {
 #[derive(Drop)]
 pub(crate) struct NamedHashes<'a> {
     pub(crate) alloc: Global,
-    pub(crate) running: RunningHashes,
+    pub(crate) running: &'a mut RunningHashes,
     pub(crate) config: &'a Config,
     pub(crate) operation: &'a Operation<'a>,
 }
 
 impl ReadTransaction for NamedHashes<'_> {
+    ghost use Rattle.std.specs.Prelude.{◌≡◌};
     ghost use Rattle.dep_staging.specs.HashedAhead.{AreRunning};
 
     type Answer = bool;
 
-    ghost reported = { λ before after more s. AreRunning s before.running → AreRunning s after.running };
+    // What is lent is the same after it.
+    ghost reported = { λ before after more s. (after.running.ghost_name ≡ before.running.ghost_name)
+        × (AreRunning s before.running.now → AreRunning s after.running.now) };
 
     fn read<T: Statements>(&mut self, tx: &mut T) -> Result<bool, StoreFault> {
-        hash_for(
-            tx,
-            self.alloc,
-            &mut self.running,
-            self.config,
-            self.operation,
-        )
+        hash_for(tx, self.alloc, self.running, self.config, self.operation)
     }
 }
 

@@ -23,26 +23,25 @@ ghost use Rattle.dep_store.specs.SendingOn.{BeginsIfOpen, SendsNextBlocks};
 ghost use Rattle.dep_store.specs.Shut.{StoreFailsIfShut, StoreFailsToReport, StoreSendsFile, TicksIfOpen};
 ghost use Rattle.dep_store.specs.Staying.{TablesStay, ReportsTables, LeavesOnly, HashesOn};
 
-use crate::caching::{Known, look, report_open};
+use crate::caching::{Known, Still, reported_by};
 use crate::migrating::migrate;
-use crate::read_transaction::{NamedHashes, read_in_transaction};
+use crate::read_transaction::{NamedHashes, read_if_open, read_in_transaction};
 use crate::reading::{NextObject, ViewObject};
 use crate::sending::stream_known;
 use crate::sending_on::{SendingPlace, find_size, send_on};
-use crate::tasks::{check_settled, transact};
+use crate::tasks::transact;
 use crate::ticking::{MoveClock, WriteClock};
 use dep_answers::{Performed, Service, StoredFile};
 use dep_decisions::Operation;
 use dep_files::{Audit, Watch, audit_files};
 use dep_moment::Moment;
 use dep_requests::{cached, clock_still, file_shown, show_service, still_known};
-use dep_schema::{OpenFault, Schema, check_open, perform_request};
+use dep_schema::{OpenFault, Schema, check_open, perform_request, probe};
 use dep_staging::RunningHashes;
 use dep_types::{Config, ObjectView, Outlet, StoreFault, StreamFault};
 use sqlite::{Alter, Connection};
 use std::alloc::Global;
 use std::marker::Model;
-use std::mem;
 
 /// The archive in the tables of a database. Contracts see it as the connection to them.
 #[derive(Drop)]
@@ -108,23 +107,21 @@ impl<S: Alter> Store<S> {
         let schema = dep_schema::open(connection)?;
         let version = schema.version();
         let Schema { mut connection, .. } = schema;
+        let known = Known::NOTHING;
         if version == 2 {
-            return Ok(Store::over(alloc, connection));
+            return Ok(Store {
+                alloc,
+                connection,
+                known,
+            });
         }
         match migrate(&mut connection, alloc, watch) {
-            Ok(()) => Ok(Store::over(alloc, connection)),
+            Ok(()) => Ok(Store {
+                alloc,
+                connection,
+                known,
+            }),
             Err(fault) => Err((OpenFault::from(fault), connection)),
-        }
-    }
-
-    // Over the tables of version 2, of which nothing is cached.
-    fn over(alloc: Global, connection: Connection<S>) -> Store<S>
-        ensures { result ≡ connection }
-    {
-        Store {
-            alloc,
-            connection,
-            known: Known::NOTHING,
         }
     }
 
@@ -135,14 +132,20 @@ impl<S: Alter> Store<S> {
         ensures { TicksIfOpen (state S.Store self.old) (state S.Store self.new)
             config.now moment result }
     {
-        check_settled(&self.connection)?;
+        if !self.connection.is_autocommit() {
+            return Err(StoreFault::Store);
+        }
         let secs = moment.secs();
         if let Some(clock) = clock_still(&self.known.cache, config, secs) {
             let shown = Moment::new(clock);
             return Ok(shown);
         }
         self.known = Known::NOTHING;
-        let found = look(&mut self.connection, config, secs)?;
+        let mut asked = Still {
+            config,
+            moment: secs,
+        };
+        let found = read_if_open(&mut self.connection, &mut asked)?;
         match found {
             Some(it) => {
                 self.known.cache = Some(it);
@@ -180,7 +183,9 @@ impl<S: Alter> Store<S> {
         // On a store that was shut it fails, and a crash leaves what it could leave before.
         ensures shut { StoreFailsIfShut (state S.Store self.old) (state S.Store self.new) result }
     {
-        check_settled(&self.connection)?;
+        if !self.connection.is_autocommit() {
+            return Err(StoreFault::Store);
+        }
         if let Some(it) = cached(&self.known.cache, operation) {
             return show_service(self.alloc, service, operation, &it);
         }
@@ -205,7 +210,6 @@ impl<S: Alter> Store<S> {
         ensures { HashesOn (state S.Store self.old) (state S.Store self.new)
             running.old running.new }
     {
-        check_settled(&self.connection)?;
         self.known = Known::NOTHING;
         read_in_transaction(&mut self.connection, running)
     }
@@ -222,21 +226,14 @@ impl<S: Alter> Store<S> {
         ensures { HashesOn (state S.Store self.old) (state S.Store self.new)
             running.old running.new }
     {
-        check_settled(&self.connection)?;
         self.known = Known::NOTHING;
         let mut asked = NamedHashes {
             alloc: self.alloc,
-            running: mem::replace(running, RunningHashes::new(self.alloc)),
+            running,
             config,
             operation,
         };
-        let more = read_in_transaction(&mut self.connection, &mut asked);
-        let NamedHashes {
-            running: hashed,
-            ..
-        } = asked;
-        drop(mem::replace(running, hashed));
-        more
+        read_in_transaction(&mut self.connection, &mut asked)
     }
 
     /// Commits the clock as it is. Before a commit SQLite copies a log of 1,000 pages and more into the file, so behind
@@ -244,7 +241,9 @@ impl<S: Alter> Store<S> {
     pub fn copy_log(&mut self) -> Result<(), StoreFault>
         ensures { CopiesLog (state S.Store self.old) (state S.Store self.new) result }
     {
-        check_settled(&self.connection)?;
+        if !self.connection.is_autocommit() {
+            return Err(StoreFault::Store);
+        }
         self.known = Known::NOTHING;
         check_open(&mut self.connection)?;
         transact(&mut self.connection, &WriteClock)
@@ -257,7 +256,9 @@ impl<S: Alter> Store<S> {
             (O.taken out.old) (O.taken out.new) (O.failures out.old) (O.failures out.new)
             file result }
     {
-        check_settled(&self.connection)?;
+        if !self.connection.is_autocommit() {
+            return Err(StreamFault::Store);
+        }
         let known = self.known;
         self.known = Known::NOTHING;
         stream_known(&mut self.connection, known.shown, file, out)?;
@@ -271,7 +272,9 @@ impl<S: Alter> Store<S> {
         // On a store that was shut it fails, and a crash leaves what it could leave before.
         ensures { BeginsIfOpen (state S.Store self.old) (state S.Store self.new) it result }
     {
-        check_settled(&self.connection)?;
+        if !self.connection.is_autocommit() {
+            return Err(StoreFault::Store);
+        }
         let known = self.known;
         self.known = Known::NOTHING;
         find_size(&mut self.connection, known.shown, it)?;
@@ -292,7 +295,9 @@ impl<S: Alter> Store<S> {
             (O.taken out.old) (O.taken out.new) (O.failures out.old) (O.failures out.new)
             it start result }
     {
-        check_settled(&self.connection)?;
+        if !self.connection.is_autocommit() {
+            return Err(StreamFault::Store);
+        }
         let known = self.known;
         self.known = Known::NOTHING;
         let place = SendingPlace { it, start };
@@ -353,14 +358,14 @@ impl<S: Alter> Store<S> {
         ensures rests { KeepsAll (condition_of S.Store self.old) (condition_of S.Store self.new) }
         ensures left { LeavesOnly (state S.Store self.old) (state S.Store self.new) }
     {
-        match self.known.cache {
-            Some(_) => Ok(true),
-            None => {
-                check_settled(&self.connection)?;
-                self.known = Known::NOTHING;
-                report_open(&mut self.connection)
-            }
+        if self.known.cache.is_some() {
+            return Ok(true);
         }
+        if !self.connection.is_autocommit() {
+            return Err(StoreFault::Store);
+        }
+        self.known = Known::NOTHING;
+        reported_by(probe(&mut self.connection))
     }
 
     /// While the store represents a state, a crash leaves that state.

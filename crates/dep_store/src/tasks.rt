@@ -1,8 +1,6 @@
 //! What is done in a transaction that is committed.
 
-ghost use Rattle.std.specs.Prelude.{◌≡◌, IsTrue, MatchResult, false};
 ghost use Rattle.sqlite.specs.Held.{state};
-ghost use Rattle.dep_types.specs.declared.store_fault.StoreFault.TheVariants.{Store};
 ghost use Rattle.dep_tables.specs.Tables.{Tables};
 ghost use Rattle.dep_store.specs.Tasks.{MakesTables, TransactsIfOpen};
 
@@ -24,18 +22,6 @@ pub(crate) trait Task {
         ensures { MakesTables T.lenders T.state tx.old tx.new result (makes self.now) };
 }
 
-/// Fails where a transaction is under way.
-pub(crate) fn check_settled<S: Alter>(connection: &Connection<S>) -> Result<(), StoreFault>
-    ensures { MatchResult result (λ _. (state S.Store connection.now).in_transaction ≡ false)
-        (λ fault. IsTrue (state S.Store connection.now).in_transaction × (fault ≡ Store)) }
-{
-    if connection.is_autocommit() {
-        Ok(())
-    } else {
-        Err(StoreFault::Store)
-    }
-}
-
 /// Does it in a transaction of its own, and commits that. It fails where one is under way.
 pub(crate) fn transact<S: Alter, K: Task>(
     connection: &mut Connection<S>,
@@ -44,9 +30,10 @@ pub(crate) fn transact<S: Alter, K: Task>(
     ensures { TransactsIfOpen (state S.Store connection.old) (state S.Store connection.new) result
         (K.makes task.now) }
 {
-    check_settled(connection)?;
+    if !connection.is_autocommit() {
+        return Err(StoreFault::Store);
+    }
     let mut tx = connection.transaction();
     let answer = task.run(&mut Lent { tx: &mut tx })?;
-    commit(tx)?;
-    Ok(answer)
+    commit(tx).and(Ok(answer))
 }

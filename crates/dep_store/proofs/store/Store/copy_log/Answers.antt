@@ -1,11 +1,12 @@
-use Rattle.std.proofs.Common.{IsTrue}
+use Rattle.std.proofs.Common.{IsTrue, Err, refl}
 use Rattle.sqlite.specs.Held.{state}
 use Rattle.sqlite.proofs.StateLemmas.{clean_if_open}
+use Rattle.dep_types.specs.declared.store_fault.StoreFault.TheVariants.{Store}
 use Rattle.dep_schema.proofs.Transacting.{fails_back}
 use Rattle.dep_store.specs.Copying.{CopiesLog}
 use Rattle.dep_store.proofs.Copied.{copies, copies_open}
 use Rattle.dep_store.proofs.ShutLemmas.{fails_still}
-use Rattle.dep_store.proofs.Tries.{busy_tries, busy_transacts, busy_fails}
+use Rattle.dep_store.proofs.Tries.{busy_tries, busy_transacts, busy_fails, is_busy}
 use Rattle.dep_store.proofs.Cache.{forgotten}
 use Rattle.dep_store.proofs.store.Store.copy_log.Goals as goal
 
@@ -14,8 +15,8 @@ returns-in_err-check_open g c =
     let first = c.self.inside.connection in
     let old = state g.S.Store first in
     let new = state g.S.Store c.check_open.new.connection in
-    let result = c.from_residual-in_err-check_open.result in
-    let is_err = c.from_residual-in_err-check_open.ensures.0 in
+    let result = c.from_residual.result in
+    let is_err = c.from_residual.ensures.0 in
     let restored = c.check_open.ensures.restored in
     let done : CopiesLog old new result =
     copies old new result (fails_back old new result _ is_err (λ is_open trees h. g.met.S.Store.settled first.store trees is_open h) restored.back restored.survives)
@@ -33,12 +34,11 @@ returns g c =
     c.transact.ensures.transacts in
     rw c.self.view_is at done
 
-pub returns-in_err-check_settled : goal.returns-in_err-check_settled
-returns-in_err-check_settled g c =
+pub returns-then-not-is_autocommit : goal.returns-then-not-is_autocommit
+returns-then-not-is_autocommit g c =
     let d = state g.S.Store c.args.self.now in
-    let busy : IsTrue d.in_transaction = rw c.self.view_is at c.in_err-check_settled.ensures.0 in
-    let failed = c.from_residual.ensures.0 in
-    record { does = busy_tries d busy _ failed; transacts = busy_transacts d busy _ failed; shut = busy_fails d busy _ failed }
+    let busy : IsTrue d.in_transaction = rw c.self.view_is at (is_busy c.self.inside.connection.in_transaction c.if-not-is_autocommit.ensures.value) in
+    record { does = busy_tries d busy (Err Store) refl; transacts = busy_transacts d busy (Err Store) refl; shut = busy_fails d busy (Err Store) refl }
 
 pub invariant_of-self : goal.invariant_of-self
 invariant_of-self g c = forgotten (state g.S.Store c.check_open.new.connection)

@@ -1,12 +1,14 @@
 use Rattle.sqlite.specs.Held.{state}
-use Rattle.dep_store.proofs.Tries.{hashes_on}
+use Rattle.dep_store.specs.Staying.{HashesOn}
 use Rattle.dep_store.proofs.Cache.{forgotten}
 use Rattle.dep_store.proofs.store.Store.hash_ahead.Goals as goal
 
 pub returns : goal.returns
 returns g c =
     let ran = c.read_in_transaction.ensures in
-    rw c.self.view_is at (hashes_on (state g.S.Store c.self.inside.connection) (state g.S.Store c.read_in_transaction.new.connection) c.args.running.now c.read_in_transaction.new.what ran.reports ran.restored)
+    let did : HashesOn (state g.S.Store c.self.inside.connection) (state g.S.Store c.read_in_transaction.new.connection) c.args.running.now c.read_in_transaction.new.what =
+    record { running = ran.reports; rests = ran.rests; left = ran.left } in
+    rw c.self.view_is at did
 
 pub invariant_of-self : goal.invariant_of-self
 invariant_of-self g c = forgotten (state g.S.Store c.read_in_transaction.new.connection)

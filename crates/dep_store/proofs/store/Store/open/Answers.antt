@@ -21,7 +21,7 @@ returns-then-version-eq2 g c =
     let new = state g.S.Store c.in_ok-schema.schema.connection in
     let did = c.in_ok-schema.ensures in
     let two : c.in_ok-schema.schema.found ≡ our_version = omega (arith, c.if-version-eq2.true, c.version-version.ensures) in
-    rw c.over.ensures record {
+    record {
       fresh = λ clean none. record { tables = new_store_tables; represents = (did.fresh clean none).0; means = first_means };
       found = λ clean s left. elim (opened_stood old new c.in_ok-schema.schema.found s (did.found clean) left) [
         | inl it ↦ it.1
@@ -55,7 +55,7 @@ returns-in-Ok g c =
     let moved = c.in-Ok.ensures in
     let it = moved.migrates in
     let one = one_left found did.known (λ two. omega (arith, two, c.if-version-eq2.false, c.version-version.ensures)) in
-    rw c.over-in-Ok.ensures record {
+    record {
       -- an empty database has version 2
       fresh = λ clean none. absurd (not_older (sym (did.fresh (it.honest clean) none).1 ∙ one));
       found = λ clean s left. elim (opened_stood old mid found s (did.found (it.honest clean)) left) [

@@ -8,10 +8,11 @@ use Rattle.dep_answers.specs.declared.performed.Performed.{Performed}
 use Rattle.dep_fields.specs.Fit.{AreFit}
 use Rattle.dep_tables.specs.Tables.{Tables}
 use Rattle.dep_tables.proofs.Results.{if_failed, if_ok}
-use Rattle.std.proofs.Common.{IsTrue, ◌≡◌, ◌∙◌, Option, Some, false, rules, sym, subst}
+use Rattle.std.proofs.Common.{IsTrue, ◌≡◌, ◌∙◌, Option, Some, Err, false, refl, sym, subst}
 use Rattle.std.specs.Prelude.{IfSome}
 use Rattle.sqlite.proofs.StateLemmas.{clean_if_open}
 use Rattle.dep_answers.specs.declared.performed.StoredFile.{StoredFile}
+use Rattle.dep_types.specs.declared.store_fault.StoreFault.TheVariants.{Store}
 use Rattle.dep_store.specs.Caching.{IsOfSize}
 use Rattle.std.proofs.lemmas.Result.{IfOk-from_err}
 use Rattle.dep_requests.specs.declared.performing.Done.{Done}
@@ -20,7 +21,7 @@ use Rattle.dep_schema.proofs.Transacting.{fails_back, stood_before, unmoved}
 use Rattle.dep_requests.specs.declared.caching.Cache.{Cache}
 use Rattle.dep_requests.proofs.CacheLemmas.{known_still}
 use Rattle.dep_store.proofs.Cache.{forgotten, service_made}
-use Rattle.dep_store.proofs.Tries.{back_as_was, busy_tries, busy_fails, tries_over}
+use Rattle.dep_store.proofs.Tries.{back_as_was, busy_tries, busy_fails, is_busy, is_settled, tries_over}
 use Rattle.dep_store.specs.Shut.{StoreFailsIfShut}
 use Rattle.dep_store.proofs.KnownFiles.{performs, shows_file}
 use Rattle.dep_store.proofs.ShutLemmas.{fails_still, was_open_then}
@@ -49,7 +50,7 @@ returns-in-Some g c =
     let still : Transacts d d result (Made config op) = unmoved d result (Made config op) (λ is_open trees h. g.met.S.Store.settled c.self.inside.connection.store trees is_open h)
     (λ t represents. service_made d t config op c.in-Some.it result represents (c.self.invariant.0 c.in-Some.it reported.0) c.show_service.ensures) in
     let was_open = c.self.invariant.1 c.in-Some.it reported.0 in
-    let between : d.in_transaction ≡ false = search rules in
+    let between : d.in_transaction ≡ false = is_settled d.in_transaction c.if-not-is_autocommit.ensures.value in
     let back : IsGivenBack d d = back_as_was d was_open between in
     let shut : StoreFailsIfShut d d result = was_open_then d d _ was_open in
     record {
@@ -67,8 +68,8 @@ returns-in_err-check_open g c =
     let new = state g.S.Store c.check_open.new.connection in
     let config = c.args.service.now in
     let op = c.args.operation.now in
-    let result = c.from_residual-in_err-check_open.result in
-    let is_err = c.from_residual-in_err-check_open.ensures.0 in
+    let result = c.from_residual.result in
+    let is_err = c.from_residual.ensures.0 in
     let restored = c.check_open.ensures.restored in
     let back : Transacts old new result (Made config op) = fails_back old new result _ is_err (λ is_open trees h. g.met.S.Store.settled first.store trees is_open h) restored.back restored.survives in
     let shut : StoreFailsIfShut old new result = fails_still old new result is_err restored.survives in
@@ -132,16 +133,15 @@ returns g c =
       shut = record { opened = shut.opened; left = shut.left };
     }
 
-pub returns-in_err-check_settled : goal.returns-in_err-check_settled
-returns-in_err-check_settled g c =
+pub returns-then-not-is_autocommit : goal.returns-then-not-is_autocommit
+returns-then-not-is_autocommit g c =
     let d = state g.S.Store c.args.self.now in
-    let busy : IsTrue d.in_transaction = rw c.self.view_is at c.in_err-check_settled.ensures.0 in
-    let failed = c.from_residual.ensures.0 in
+    let busy : IsTrue d.in_transaction = rw c.self.view_is at (is_busy c.self.inside.connection.in_transaction c.if-not-is_autocommit.ensures.value) in
     record {
-      does = busy_tries d busy _ failed;
-      unchanged = λ clean s given running nothing. IfOk-from_err c.from_residual.result _ failed;
+      does = busy_tries d busy (Err Store) refl;
+      unchanged = λ clean s given running nothing. tt;
       running = λ is_open s represents are. are;
-      shut = busy_fails d busy _ failed;
+      shut = busy_fails d busy (Err Store) refl;
     }
 
 pub invariant_of-self : goal.invariant_of-self
@@ -161,7 +161,7 @@ invariant_of-self-2 g c =
     (shows_file _ _ c.args.service.now op _ asked.plain) asked.transacts asked.changes asked.back in
     let known = λ (m : Cache) (is : c.still_known-self-inside.result ≡ Some m). known_still c.in_ok-done.done.has_changes c.self.inside.known.cache m (sym c.still_known-self-inside.ensures ∙ is) in (
       λ m is s represents.
-          c.self.invariant.0 m (known m is).0 s (stood_before (state g.S.Store c.self.inside.connection) (state g.S.Store c.perform_request.new.connection) (done.back (known m is).1).back (search rules) s represents),
+          c.self.invariant.0 m (known m is).0 s (stood_before (state g.S.Store c.self.inside.connection) (state g.S.Store c.perform_request.new.connection) (done.back (known m is).1).back (is_settled c.self.inside.connection.in_transaction c.if-not-is_autocommit.ensures.value) s represents),
       λ m is clean. (done.back (known m is).1).opened clean,
       λ it is.
           let shown = c.file_shown-self-inside.ensures.reported it is in
@@ -169,7 +169,7 @@ invariant_of-self-2 g c =
           let store = c.perform_request.new.connection.store in (
             λ s represents.
                 let clean = clean_if_open (g.S.Store.view store) (g.met.S.Store.shut_if_dirty store) represents.represents.is_open in
-                let was = stood_before (state g.S.Store c.self.inside.connection) (state g.S.Store c.perform_request.new.connection) given.back (search rules) s represents in
+                let was = stood_before (state g.S.Store c.self.inside.connection) (state g.S.Store c.perform_request.new.connection) given.back (is_settled c.self.inside.connection.in_transaction c.if-not-is_autocommit.ensures.value) s represents in
                 subst (λ (o : Option StoredFile). IfSome o (IsOfSize s)) shown.2 (done.shows shown.0 clean s was),
             λ clean. given.opened clean,
           ),

@@ -1,15 +1,16 @@
-use Rattle.std.proofs.Common.{IsTrue, ◌∙◌, ℕ, Result, Ok, min, sym, ap}
+use Rattle.std.proofs.Common.{IsTrue, ◌∙◌, ℕ, Result, Ok, Err, min, refl, sym, ap}
 use Rattle.sqlite.specs.Held.{state}
 use Rattle.sqlite.proofs.StateLemmas.{clean_if_open}
 use Rattle.dep_types.specs.Limits.{greatest_moment}
 use Rattle.dep_types.specs.declared.store_fault.StoreFault.{StoreFault}
+use Rattle.dep_types.specs.declared.store_fault.StoreFault.TheVariants.{Store}
 use Rattle.dep_schema.specs.Transactions.{Transacts}
 use Rattle.dep_schema.proofs.Transacting.{unmoved, after_back, fails_back}
 use Rattle.dep_store.specs.Shut.{StoreFailsIfShut}
 use Rattle.dep_requests.proofs.CacheLemmas.{none_is}
-use Rattle.dep_store.proofs.Cache.{clock_made, forgotten}
+use Rattle.dep_store.proofs.Cache.{clock_made, forgotten, may_cache}
 use Rattle.dep_store.proofs.ShutLemmas.{fails_still, was_open_then}
-use Rattle.dep_store.proofs.Tries.{busy_tries, busy_fails, Clocked, ticks_over}
+use Rattle.dep_store.proofs.Tries.{busy_tries, busy_fails, is_busy, is_settled, Clocked, ticks_over}
 use Rattle.dep_store.proofs.store.Store.tick.Goals as goal
 
 abbrev reported : ℕ → Result ℕ StoreFault
@@ -33,10 +34,10 @@ returns-in-Some g c =
 pub returns-in_err-found : goal.returns-in_err-found
 returns-in_err-found g c =
     let old = state g.S.Store c.self.inside.connection in
-    let new = state g.S.Store c.look.new.connection in
-    let restored = c.look.ensures.finds.restored in
-    let result = c.from_residual-in_err-found.result in
-    let is_err = c.from_residual-in_err-found.ensures.0 in
+    let new = state g.S.Store c.read_if_open.new.connection in
+    let restored = c.read_if_open.ensures.finds.restored in
+    let result = c.from_residual.result in
+    let is_err = c.from_residual.ensures.0 in
     let back : Transacts old new result (Clocked c.args.config.now c.secs-secs.result) = fails_back old new result _ is_err (λ is_open trees h. g.met.S.Store.settled c.self.inside.connection.store trees is_open h) restored.back restored.survives in
     let shut : StoreFailsIfShut old new result = fails_still old new result is_err restored.survives in
     record {
@@ -47,16 +48,18 @@ returns-in_err-found g c =
 pub returns-in-Some-found : goal.returns-in-Some-found
 returns-in-Some-found g c =
     let old = state g.S.Store c.self.inside.connection in
-    let mid = state g.S.Store c.look.new.connection in
-    let store = c.look.new.connection.store in
+    let mid = state g.S.Store c.read_if_open.new.connection in
+    let store = c.read_if_open.new.connection.store in
     let config = c.args.config.now in
     let looked = c.in_ok-found.ensures in
     let restored = looked.finds.restored in
     let shown = reported c.new-reported.result in
+    let cached = may_cache old mid config c.secs-secs.result _ (clean_if_open (g.S.Store.view store) (g.met.S.Store.shut_if_dirty store))
+    (is_settled c.self.inside.connection.in_transaction c.if-not-is_autocommit.ensures.value) looked in
     let moved : Transacts old mid shown (Clocked config c.secs-secs.result) = after_back old mid mid _ _ (λ is_open trees h. g.met.S.Store.settled c.self.inside.connection.store trees is_open h)
     (clean_if_open (g.S.Store.view store) (g.met.S.Store.shut_if_dirty store)) restored.back restored.survives looked.finds.opened
     (unmoved mid _ _ (λ is_open trees h. g.met.S.Store.settled store trees is_open h)
-    (λ t represents. clock_made mid t config c.secs-secs.result c.in-Some-found.it c.new-reported.result represents (λ s at. looked.is_cache s at c.in-Some-found.it c.in-Some-found.is) c.new-reported.ensures)) in
+    (λ t represents. clock_made mid t config c.secs-secs.result c.in-Some-found.it c.new-reported.result represents (λ s at. cached s at c.in-Some-found.it c.in-Some-found.is) c.new-reported.ensures)) in
     let shut : StoreFailsIfShut old mid shown = was_open_then old mid _ (λ clean. (restored.back (looked.finds.opened clean)).0) in
     record {
       does = ticks_over _ _ _ config _ _ c.secs-secs.ensures.seconds (rw c.self.view_is at moved);
@@ -66,9 +69,9 @@ returns-in-Some-found g c =
 pub returns-in-None : goal.returns-in-None
 returns-in-None g c =
     let old = state g.S.Store c.self.inside.connection in
-    let mid = state g.S.Store c.look.new.connection in
+    let mid = state g.S.Store c.read_if_open.new.connection in
     let new = state g.S.Store c.transact.new.connection in
-    let store = c.look.new.connection.store in
+    let store = c.read_if_open.new.connection.store in
     let finds = c.in_ok-found.ensures.finds in
     let moved : Transacts old new c.transact.result (Clocked c.args.config.now c.secs-secs.result) = after_back old mid new _ _ (λ is_open trees h. g.met.S.Store.settled c.self.inside.connection.store trees is_open h)
     (clean_if_open (g.S.Store.view store) (g.met.S.Store.shut_if_dirty store)) finds.restored.back finds.restored.survives finds.opened c.transact.ensures.transacts in
@@ -81,17 +84,24 @@ returns-in-None g c =
 
 -- what was read is cached
 pub invariant_of-self-in-Some-found : goal.invariant_of-self-in-Some-found
-invariant_of-self-in-Some-found g c = (λ m is s represents. (c.in_ok-found.ensures.is_cache s represents m (c.in-Some-found.is ∙ is)).0, λ m is clean. c.in_ok-found.ensures.finds.opened clean, λ it is. absurd (none_is is))
+invariant_of-self-in-Some-found g c =
+    let store = c.read_if_open.new.connection.store in
+    let looked = c.in_ok-found.ensures in
+    let cached = may_cache (state g.S.Store c.self.inside.connection) (state g.S.Store c.read_if_open.new.connection) c.args.config.now c.secs-secs.result _
+    (clean_if_open (g.S.Store.view store) (g.met.S.Store.shut_if_dirty store)) (is_settled c.self.inside.connection.in_transaction c.if-not-is_autocommit.ensures.value) looked in (
+      λ m is s represents. (cached s represents m (c.in-Some-found.is ∙ is)).0,
+      λ m is clean. looked.finds.opened clean,
+      λ it is. absurd (none_is is),
+    )
 
-pub returns-in_err-check_settled : goal.returns-in_err-check_settled
-returns-in_err-check_settled g c =
+pub returns-then-not-is_autocommit : goal.returns-then-not-is_autocommit
+returns-then-not-is_autocommit g c =
     let d = state g.S.Store c.args.self.now in
-    let busy : IsTrue d.in_transaction = rw c.self.view_is at c.in_err-check_settled.ensures.0 in
-    let failed = c.from_residual.ensures.0 in
-    record { does = busy_tries d busy _ failed; shut = busy_fails d busy _ failed }
+    let busy : IsTrue d.in_transaction = rw c.self.view_is at (is_busy c.self.inside.connection.in_transaction c.if-not-is_autocommit.ensures.value) in
+    record { does = busy_tries d busy (Err Store) refl; shut = busy_fails d busy (Err Store) refl }
 
 pub invariant_of-self : goal.invariant_of-self
-invariant_of-self g c = forgotten (state g.S.Store c.look.new.connection)
+invariant_of-self g c = forgotten (state g.S.Store c.read_if_open.new.connection)
 
 pub invariant_of-self-in-None : goal.invariant_of-self-in-None
 invariant_of-self-in-None g c = forgotten (state g.S.Store c.transact.new.connection)
