@@ -1,6 +1,7 @@
 -- How a host goes on.
-use Rattle.std.proofs.Common.{◌≡◌, ◌⊎◌, ◌<◌, ◌≤◌, ◌+◌, ◌==◌, ◌||◌, if◌then◌else◌, ℕ, zero, suc, Bool, true, false, List, [], ◌∷◌, ◌++◌, Option, None, Some, refl, sym, ap, subst, ◌∙◌, append_assoc, length, get_or, set, take, Vec, Global, is_some, Ok, IsTrue, add-one, inl, inr, arith}
+use Rattle.std.proofs.Common.{◌≡◌, ◌⊎◌, ◌<◌, ◌≤◌, ◌+◌, ◌==◌, ◌||◌, if◌then◌else◌, cond, ℕ, zero, suc, Bool, true, false, List, [], ◌∷◌, ◌++◌, Option, None, Some, refl, sym, ap, subst, ◌∙◌, append_assoc, length, get_or, set, take, Vec, Global, is_some, Ok, IsTrue, add-one, inl, inr, arith}
 use Rattle.std.proofs.lemmas.List.{append-nil, get_or_default, set-get_or, get_or-set_same, get_or-set_other}
+use Rattle.std.proofs.lemmas.List.Sums.{sum_by-cons}
 use Rattle.std.proofs.Math.ListN.{length-set}
 use Rattle.std.proofs.lemmas.Bool.{cases_eq, cases_lt}
 use Rattle.std.proofs.KnownBytes.{Keeps-refl}
@@ -31,6 +32,7 @@ use Rattle.dep_slot.specs.declared.connection_state.Phase.TheVariants.{Open}
 use Rattle.dep_slot.specs.Notes.{Note, GrowsWhereShown}
 use Rattle.dep_slot.specs.Slots.{SameBehind, SameClient}
 use Rattle.dep_host.specs.Actions.{Position, slot_at, HostAction, unfinished_of, unfinished_in, IsRightlyReported, Closes}
+use Rattle.dep_host.specs.Coming.{comes_from, slots_from}
 use Rattle.dep_host.specs.Hosting.{farewell, MayGo, HostStays, Goes, Asks, Refused, HostStep, refused, asks, rests, Steps, begins, goes_on, EvictsLargest}
 
 -- what a log is told
@@ -55,6 +57,11 @@ neither false b h = (refl, h)
 -- what was read at a place is what stands there
 pub slot_read : {X : Type 0} (at : ℕ) (slots : List (Option X)) (x : Option X) → at < length slots → x ≡ get_or slots at x → slot_at at slots ≡ x
 slot_read at slots x there read = get_or_default slots at None x there ∙ sym read
+
+-- so is who is read there
+pub read_there : {R K S : Type 0} (at : ℕ) (slots : List (Option (Slot R K S))) (x : Option (Slot R K S)) → at < length slots → x ≡ get_or slots at x
+    → IsSomeAnd x (λ slot. slot.state.phase ≡ Open) → IsSomeAnd (slot_at at slots) (λ slot. slot.state.phase ≡ Open)
+read_there {R = R} {K = K} {S = S} at slots x there read waits = subst (λ (o : Option (Slot R K S)). IsSomeAnd o (λ slot. slot.state.phase ≡ Open)) (sym (slot_read at slots x there read)) waits
 
 -- nobody is from a place on, also once a place changed to one where nobody is, or where somebody sat
 pub free_once_left : {X : Type 0} (slots : List (Option X)) (at end : ℕ) (x : Option X) → at < length slots → x ≡ None → ((place : ℕ) → end ≤ place → slot_at place slots ≡ None)
@@ -112,6 +119,10 @@ nothing_behind old new number same absent = same ∙ absent_behind old number ab
 pub closes_there : {A R K S : Type 0} (p : Position A R K S) (at second : ℕ) (slot : Slot R K S) (reported : Option Closing) (reason : Closing) → slot_at at p.slots ≡ Some slot → reported ≡ why slot.state second p.limits
     → reported ≡ Some reason → MayGo p second reason (slot_at at p.slots)
 closes_there {R = R} {K = K} {S = S} p at second slot reported reason sat e is = subst (λ (o : Option (Slot R K S)). MayGo p second reason o) (sym sat) (inl (sym e ∙ is))
+
+-- nobody is closed where nobody is
+pub nobody_may_go : {A R K S : Type 0} (p : Position A R K S) (second : ℕ) (reason : Closing) (x : Option (Slot R K S)) → MayGo p second reason x → x ≡ None → ⊥
+nobody_may_go p second reason x may e = subst (λ o. MayGo p second reason o) e may
 
 -- nothing of what stays changed
 pub stays_same : {A R K S : Type 0} (p : Host A R K S) → HostStays p p
@@ -199,6 +210,23 @@ kept_front (s ∷ slots) zero none =
     let f : unfinished_of (slot_at zero (s ∷ slots)) ≡ unfinished_of s = refl in
     omega (arith, rest, here, e, z, y, f)
 kept_front (s ∷ slots) (suc n) none = ap (λ (k : ℕ). unfinished_of s + k) (kept_front slots n (λ at h. none (suc at) (omega (arith, h))))
+
+-- so are all who come from an address
+abbrev from_here : {R K S : Type 0} → ℕ → Option (Slot R K S) → ℕ
+from_here from s = cond (comes_from from s) 1 0
+
+pub from_front : {R K S : Type 0} (from : ℕ) (slots : List (Option (Slot R K S))) (n : ℕ) → ((at : ℕ) → n ≤ at → slot_at at slots ≡ None) → slots_from from slots ≡ slots_from from (take n slots)
+from_front from [] zero none = refl
+from_front from [] (suc n) none = refl
+from_front from (s ∷ slots) zero none =
+    let rest = from_front from slots zero (λ at h. none (suc at) (omega arith)) in
+    let here : from_here from s ≡ 0 = ap (λ x. from_here from x) (none zero (omega arith)) in
+    let e : slots_from from (s ∷ slots) ≡ from_here from s + slots_from from slots = sum_by-cons (from_here from) s slots in
+    let z : slots_from from (take zero slots) ≡ 0 = refl in
+    let y : slots_from from (take zero (s ∷ slots)) ≡ 0 = refl in
+    omega (arith, rest, here, e, z, y)
+from_front from (s ∷ slots) (suc n) none =
+    sum_by-cons (from_here from) s slots ∙ (ap (λ (k : ℕ). from_here from s + k) (from_front from slots n (λ at h. none (suc at) (omega (arith, h)))) ∙ sym (sum_by-cons (from_here from) s (take n slots)))
 
 module _ {A R K S : Type 0} (condition : A → Condition) (unread : R → Option (List ℕ)) (taken : K → Option (List ℕ)) (held : S → Option (List ℕ)) where
   pub represents_still : (p : Position A R K S) → Steps condition unread taken held p [] p
@@ -305,9 +333,6 @@ module _ {A R K S : Type 0} (condition : A → Condition) (unread : R → Option
   pub closing : (p q : Position A R K S) (at second : ℕ) (reason : Closing) (x : Option (Slot R K S)) (slot : Slot R K S) → x ≡ Some slot → Goes condition unread taken held p q at second reason slot
       → IfSome x (Goes condition unread taken held p q at second reason)
   closing p q at second reason x slot e g = subst (λ (o : Option (Slot R K S)). IfSome o (Goes condition unread taken held p q at second reason)) (sym e) g
-
-  pub closing_none : (p q : Position A R K S) (at second : ℕ) (reason : Closing) (x : Option (Slot R K S)) → x ≡ None → IfSome x (Goes condition unread taken held p q at second reason)
-  closing_none p q at second reason x e = subst (λ (o : Option (Slot R K S)). IfSome o (Goes condition unread taken held p q at second reason)) (sym e) tt
 
   -- the largest was closed
   pub evict_one : (p q : Position A R K S) (at second : ℕ) (reported reports : Option (List Note)) (x : Option (Slot R K S)) → slot_at at p.slots ≡ x → IsSomeAnd x (λ slot. slot.state.phase ≡ Open)

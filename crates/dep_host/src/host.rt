@@ -236,10 +236,13 @@ impl<A: Archive, R: Source + Drop, K: Sink + Drop, S: Spool + Drop> Host<A, R, K
         ensures { result ≡ slots_from (origin address) self.now.slots.items }
     {
         let from = origin(address);
-        self.slots
-            .iter()
-            .filter(|slot| comes_from(*slot, from))
-            .count()
+        let mut count = 0;
+        for at in 0..self.end {
+            if comes_from(&self.slots[at], from) {
+                count += 1;
+            }
+        }
+        count
     }
 
     /// Takes note that a socket may be ready.
@@ -358,7 +361,7 @@ impl<A: Archive, R: Source + Drop, K: Sink + Drop, S: Spool + Drop> Host<A, R, K
         ensures stays { HostStays self.old self.new }
     {
         let at = self.largest();
-        if self.is_full() && self.is_read(at) {
+        if self.is_full() && at < self.slots.len() && is_read(&self.slots[at]) {
             self.close(at, second, Closing::Large, log);
         }
     }
@@ -387,14 +390,6 @@ impl<A: Archive, R: Source + Drop, K: Sink + Drop, S: Spool + Drop> Host<A, R, K
             }
         }
         largest
-    }
-
-    /// Whether who is there is read, and none of its requests may be complete.
-    fn is_read(&self, at: usize) -> bool
-        ensures read { result ≡ true → IsReadAt (position self.now) at }
-        ensures unread { result ≡ false → IsReadAt (position self.now) at → ⊥ }
-    {
-        at < self.slots.len() && is_read(&self.slots[at])
     }
 
     /// Whether more bytes of unfinished requests are kept than may be.

@@ -116,9 +116,9 @@ impl<'a, R: Files + Net + Clock> Events<SocketSource, SocketSink, FileSpool<'a, 
         vacancy: Option<usize>,
         is_busy: bool,
     ) -> Event<SocketSource, SocketSink, FileSpool<'a, R>> {
-        match &mut self.sockets {
-            Some(sockets) => sockets.next(vacancy, is_busy),
-            None => Event::End,
-        }
+        let Some(sockets) = &mut self.sockets else {
+            return Event::End;
+        };
+        sockets.next(vacancy, is_busy)
     }
 }

@@ -51,26 +51,6 @@ impl<'a, R: Files> FileSpool<'a, R> {
         file.seek(SeekFrom::Start(self.end)).is_ok() && file.write_all(bytes).is_ok()
     }
 
-    /// Moves some of its first bytes behind those of the vector.
-    fn read_into(&mut self, into: &mut Vec<u8>) -> Result<(), SpoolFailed>
-        ensures moved { OnOk result
-            (vec_len into.new + self.old.begin ≡ vec_len into.old + self.new.begin) }
-        ensures some { OnOk result (self.old.begin < self.old.end
-            → self.old.begin < self.new.begin) }
-        ensures same { OnErr result (self.new.begin ≡ self.old.begin) }
-        ensures kept { OnErr result (vec_len into.new ≡ vec_len into.old) }
-        ensures end { self.new.end ≡ self.old.end }
-        ensures failures { self.new.failures ≡ self.old.failures }
-    {
-        let count = (self.end - self.begin).min(MOST_PULLED);
-        let Some(file) = &mut self.file else {
-            return Err(SpoolFailed);
-        };
-        read_behind(file, self.begin, count, into)?;
-        self.begin += count;
-        Ok(())
-    }
-
     /// Moves some of its first bytes behind those of the vector, and gives the file up once none is left.
     fn take_out(&mut self, into: &mut Vec<u8>) -> Result<(), SpoolFailed>
         ensures some { OnOk result (vec_len into.old < vec_len into.new) }
@@ -78,10 +58,15 @@ impl<'a, R: Files> FileSpool<'a, R> {
             ≡ vec_len into.old + (self.old.end - self.old.begin) }
         ensures failures { self.new.failures ≡ self.old.failures }
     {
-        if self.begin == self.end {
+        let begin = self.begin;
+        let count = (self.end - begin).min(MOST_PULLED);
+        let Some(file) = &mut self.file else {
+            return Err(SpoolFailed);
+        };
+        if count == 0 || !read_behind(file, begin, count, into) {
             return Err(SpoolFailed);
         }
-        self.read_into(into)?;
+        self.begin += count;
         if self.begin == self.end {
             self.forget_file();
         }
@@ -122,28 +107,23 @@ impl<'a, R: Files> FileSpool<'a, R> {
     }
 }
 
-/// Reads so many bytes of the file behind those of the vector, or leaves it as it was.
-fn read_behind<F: Read + Seek>(
-    file: &mut F,
-    begin: u64,
-    count: u64,
-    into: &mut Vec<u8>,
-) -> Result<(), SpoolFailed>
-    ensures read { OnOk result (vec_len into.new ≡ vec_len into.old + count) }
-    ensures same { OnErr result (vec_len into.new ≡ vec_len into.old) }
+/// Reads so many bytes of the file behind those of the vector, or leaves it as it was. It returns whether it could.
+fn read_behind<F: Read + Seek>(file: &mut F, begin: u64, count: u64, into: &mut Vec<u8>) -> bool
+    ensures read { result ≡ true → vec_len into.new ≡ vec_len into.old + count }
+    ensures same { result ≡ false → vec_len into.new ≡ vec_len into.old }
 {
     let before = into.len();
     let Some(whole) = before.checked_add(count as usize) else {
-        return Err(SpoolFailed);
+        return false;
     };
     if file.seek(SeekFrom::Start(begin)).is_err() || into.resize(whole, 0).is_err() {
-        return Err(SpoolFailed);
+        return false;
     }
     if file.read_exact(&mut into[before..]).is_err() {
         into.truncate(before);
-        return Err(SpoolFailed);
+        return false;
     }
-    Ok(())
+    true
 }
 
 impl<R: Files> Drop for FileSpool<'_, R> {

@@ -37,27 +37,31 @@ pub(crate) struct Poller {
 }
 
 impl Poller {
-    /// A poller of no socket yet, with room for what is said of all of them at once.
-    pub fn new<R: Net>(alloc: Global, rt: &R) -> io::Result<Poller> {
+    /// Listens at the address, and watches whether a client waits there, with room for what is said of all sockets at
+    /// once.
+    pub fn listening<R: Net>(
+        alloc: Global,
+        rt: &R,
+        address: SocketAddr,
+    ) -> io::Result<(Poller, TcpListener)> {
         let polled = Events::with_capacity(alloc, MOST_READY)?;
         let ready = Vec::with_capacity(alloc, MOST_READY)?;
-        Ok(Poller {
-            poll: Poll::new(rt)?,
+        let poll = Poll::new(rt)?;
+        let mut listener = TcpListener::bind(rt, address)?;
+        let registry = poll.registry();
+        registry.register(&mut listener, LISTENER, Interest::READABLE)?;
+        let poller = Poller {
+            poll,
             polled,
             ready,
-        })
+        };
+        Ok((poller, listener))
     }
 
-    /// Listens at the address, and watches whether a client waits there.
-    pub fn listener_at<R: Net>(&self, rt: &R, address: SocketAddr) -> io::Result<TcpListener> {
-        let mut listener = TcpListener::bind(rt, address)?;
-        let registry = self.poll.registry();
-        registry.register(&mut listener, LISTENER, Interest::READABLE)?;
-        Ok(listener)
-    }
-
-    /// Watches the socket of the connection at a place too. It returns whether it can.
+    /// Watches the socket of the connection at a place too, which sends at once. It returns whether it can.
     pub fn add(&self, stream: &mut TcpStream, at: usize) -> bool {
+        // Else a short content would wait until its client has acknowledged the head.
+        let _ = stream.set_nodelay(true);
         let interest = Interest::READABLE | Interest::WRITABLE;
         let registry = self.poll.registry();
         registry.register(stream, Token(at), interest).is_ok()

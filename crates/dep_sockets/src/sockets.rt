@@ -10,11 +10,11 @@ use crate::stop_file::StopFile;
 use dep_host::{Client, Event, Events, MOST_SEATS};
 use dep_outbox::Wire;
 use mio::net::{TcpListener, TcpStream};
-use std::alloc::{AllocError, Global};
+use std::alloc::Global;
 use std::error::Error;
 use std::fs::Files;
 use std::io::ErrorKind;
-use std::net::{Net, SocketAddr};
+use std::net::{IpAddr, Net, SocketAddr};
 use std::rc::Rc;
 use std::time::{Clock, Duration, Instant};
 use std::{fmt, io};
@@ -87,8 +87,7 @@ impl<'a, R: Files + Net + Clock> Sockets<'a, R> {
     ) -> io::Result<Sockets<'a, R>> {
         let start = Instant::now(rt)?;
         let open = Rc::new(alloc, ())?;
-        let poller = Poller::new(alloc, rt)?;
-        let listener = poller.listener_at(rt, entrance.address)?;
+        let (poller, listener) = Poller::listening(alloc, rt, entrance.address)?;
         Ok(Sockets {
             alloc,
             spools,
@@ -105,13 +104,22 @@ impl<'a, R: Files + Net + Clock> Sockets<'a, R> {
         })
     }
 
-    /// Waits, unless all clients were let in, and have left. It returns whether it could.
+    /// Waits until a socket is ready, or only looks where something is to be done, and not even that where it has just
+    /// looked. It returns whether it could: not where all clients were let in, and have left.
     fn go_on(&mut self, is_busy: bool) -> bool {
         if self.remaining == 0 && Rc::strong_count(&self.open) == 1 {
             return false;
         }
-        match self.wait(is_busy) {
-            Ok(()) => true,
+        if self.clock.serves_next(is_busy) {
+            return true;
+        }
+        let nap = Duration::from_secs(if is_busy { 0 } else { NAP });
+        match self.poller.wait(nap) {
+            Ok(is_waited_for) => {
+                self.is_waited_for |= is_waited_for;
+                self.clock.note_look();
+                true
+            }
             Err(fault) => {
                 self.fault = Some(fault);
                 false
@@ -119,57 +127,47 @@ impl<'a, R: Files + Net + Clock> Sockets<'a, R> {
         }
     }
 
-    /// Waits until a socket is ready, or only looks where something is to be done, and not even that
-    /// where it has just looked.
-    fn wait(&mut self, is_busy: bool) -> Result<(), SocketFault> {
-        if self.clock.serves_next(is_busy) {
-            return Ok(());
-        }
-        let nap = Duration::from_secs(if is_busy { 0 } else { NAP });
-        let is_waited_for = self.poller.wait(nap)?;
-        self.is_waited_for |= is_waited_for;
-        self.clock.note_look();
-        Ok(())
-    }
-
-    /// The next client that waits, if there is a vacancy.
+    /// The next client that waits, if there is a vacancy, and the system has room for it.
     fn let_in(&mut self, vacancy: Option<usize>, count: usize) -> Option<SocketClient<'a, R>> {
-        match vacancy {
-            Some(at) if self.is_waited_for && self.remaining > 0 && count < MOST_SEATS => {
-                let (stream, address) = self.accept()?;
-                self.stage = EventKind::LettingIn(count + 1);
-                self.remaining = self.remaining.saturating_sub(1);
-                self.slot(stream, address, at)
-            }
-            _ => None,
-        }
+        let Some((source, sink, address)) = self.seat(vacancy, count) else {
+            return None;
+        };
+        let wire = Wire::new(self.alloc, sink, FileSpool::new(self.spools));
+        Some(Client::new(source, wire, address))
     }
 
-    /// A client that is seated there, if the system has room for it.
-    fn slot(
-        &self,
-        mut stream: TcpStream,
-        address: SocketAddr,
-        at: usize,
-    ) -> Option<SocketClient<'a, R>> {
-        // Else a short content would wait until its client has acknowledged the head.
-        let _ = stream.set_nodelay(true);
+    /// Seats the next client that waits at the vacancy, and returns the halves of its socket, and where it comes from.
+    fn seat(
+        &mut self,
+        vacancy: Option<usize>,
+        count: usize,
+    ) -> Option<(SocketSource, SocketSink, IpAddr)> {
+        let Some(at) = vacancy else {
+            return None;
+        };
+        if !self.is_waited_for || self.remaining == 0 || count >= MOST_SEATS {
+            return None;
+        }
+        let Some((mut stream, address)) = self.accept() else {
+            return None;
+        };
+        self.stage = EventKind::LettingIn(count + 1);
+        self.remaining = self.remaining.saturating_sub(1);
         if !self.poller.add(&mut stream, at) {
             return None;
         }
-        match halves(self.alloc, stream, &self.open) {
-            Ok((source, sink)) => {
-                let wire = Wire::new(self.alloc, sink, FileSpool::new(self.spools));
-                Some(Client::new(source, wire, address.ip()))
-            }
-            Err(AllocError) => None,
-        }
+        let Ok((source, sink)) = halves(self.alloc, stream, &self.open) else {
+            return None;
+        };
+        Some((source, sink, address.ip()))
     }
 
     /// The next client that waits. Where the system gives none, as for want of descriptors, it is asked again in
     /// another round.
     fn accept(&mut self) -> Option<(TcpStream, SocketAddr)> {
-        let listener = self.listener.as_ref()?;
+        let Some(listener) = &self.listener else {
+            return None;
+        };
         for _ in 0..MOST_TRIES {
             match listener.accept() {
                 Ok(client) => return Some(client),
@@ -207,22 +205,20 @@ impl<'a, R: Files + Net + Clock> Events<SocketSource, SocketSink, FileSpool<'a, 
             if let Some(client) = self.let_in(vacancy, count) {
                 return Event::Client(client);
             }
-            if !self.go_on(is_busy || count > 0) {
+            if !self.go_on(is_busy | (count > 0)) {
                 self.has_ended = true;
                 return Event::End;
             }
             self.stage = EventKind::Reporting;
         }
-        match self.poller.pop() {
-            Some(ready) => Event::Ready {
-                at: ready.at,
-                is_readable: ready.is_readable,
-                is_writable: ready.is_writable,
-            },
-            None => {
-                self.stage = EventKind::LettingIn(0);
-                Event::Round(self.clock.begin_round())
-            }
+        let Some(ready) = self.poller.pop() else {
+            self.stage = EventKind::LettingIn(0);
+            return Event::Round(self.clock.begin_round());
+        };
+        Event::Ready {
+            at: ready.at,
+            is_readable: ready.is_readable,
+            is_writable: ready.is_writable,
         }
     }
 }

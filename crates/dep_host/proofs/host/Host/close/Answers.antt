@@ -6,7 +6,7 @@ use Rattle.dep_hub.specs.RepresentsOwing.{behind_at}
 use Rattle.dep_hub.specs.declared.rest.Behind.TheVariants.{Nothing}
 use Rattle.dep_host.specs.Actions.{position}
 use Rattle.dep_host.specs.Hosting.{MayGo}
-use Rattle.dep_host.proofs.HostLemmas.{within_still, free_once_left, slot_read, closing, closing_none, stays_set}
+use Rattle.dep_host.proofs.HostLemmas.{within_still, free_once_left, slot_read, nobody_may_go, closing, stays_set}
 use Rattle.dep_host.proofs.host.Host.close.Goals as goal
 
 pub returns-in-Some-clause-goes : goal.returns-in-Some-clause-goes
@@ -32,13 +32,8 @@ returns-in-Some-clause-goes g c = record {
 }
 
 pub returns-in_default-clause-goes : goal.returns-in_default-clause-goes
-returns-in_default-clause-goes g c = record {
-  goes = closing_none g.A.Archive.condition g.R.Source.unread g.K.Sink.taken g.S.Spool.held _ _ c.args.at c.args.second c.args.closing _
-      (slot_read _ _ _ c.requires.there c.index_mut.ensures.value ∙ (sym c.take.ensures.value ∙ c.in_default.is));
-  gone = get_or-set_same _ c.args.at _ None c.requires.there ∙ c.take.ensures.after;
-  others = λ place ne. get_or-set_other _ c.args.at place _ None ne;
-  stays = stays_set _ _ c.args.at _ refl refl refl refl refl;
-}
+returns-in_default-clause-goes g c = absurd (nobody_may_go _ c.args.second c.args.closing _ c.requires.done
+    (slot_read _ _ _ c.requires.there c.index_mut.ensures.value ∙ (sym c.take.ensures.value ∙ c.in_default.is)))
 
 pub invariant_of-self : goal.invariant_of-self
 invariant_of-self g c = record {
@@ -47,7 +42,5 @@ invariant_of-self g c = record {
 }
 
 pub invariant_of-self-in_default : goal.invariant_of-self-in_default
-invariant_of-self-in_default g c = record {
-  within = within_still _ c.args.at _ _ c.args.self.now.within;
-  free = free_once_left _ c.args.at _ _ c.requires.there c.take.ensures.after c.args.self.now.free;
-}
+invariant_of-self-in_default g c = absurd (nobody_may_go _ c.args.second c.args.closing _ c.requires.done
+    (slot_read _ _ _ c.requires.there c.index_mut.ensures.value ∙ (sym c.take.ensures.value ∙ c.in_default.is)))
