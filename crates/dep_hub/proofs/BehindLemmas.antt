@@ -1,6 +1,6 @@
 -- What is behind the last replies of connections.
 use Rattle.std.specs.Prelude.{◌||◌}
-use Rattle.std.proofs.Common.{◌≡◌, ◌≢◌, ◌⊎◌, inl, inr, ℕ, suc, zero, ◌==◌, ◌+◌, ◌<◌, ◌≤◌, Bool, true, false, List, [], ◌∷◌, ◌++◌, get_or, set, drop, Option, Some, None, if◌then◌else◌, refl, sym, ap, subst, ◌∙◌, arith}
+use Rattle.std.proofs.Common.{◌≡◌, ◌≢◌, ◌⊎◌, inl, inr, ℕ, suc, zero, ◌==◌, ◌+◌, ◌<◌, ◌≤◌, Bool, true, false, List, [], ◌∷◌, ◌++◌, get_or, set, drop, Option, Some, None, Result, Ok, Err, if◌then◌else◌, refl, sym, ap, subst, ◌∙◌, arith}
 use Rattle.std.specs.Option.{option_map}
 use Rattle.std.proofs.lemmas.Bool.Decides.{nat_tests}
 use Rattle.std.proofs.lemmas.List.{append-nil}
@@ -10,6 +10,7 @@ use Rattle.std.proofs.lemmas.Bool.{eq-eqb, eqb-true}
 use Rattle.dep_types.specs.State.{State, File, file_at}
 use Rattle.dep_types.specs.declared.config.Config.{Config}
 use Rattle.dep_types.specs.Conditions.{Condition, Represents, HasCleanDisk, Leaves}
+use Rattle.dep_types.specs.declared.stream_fault.StreamFault.{StreamFault}
 use Rattle.dep_message.specs.Places.{Reading}
 use Rattle.dep_exchange.specs.Records.{Line}
 use Rattle.dep_exchange.specs.Shut.{LeavesNoMore, IfShut}
@@ -18,14 +19,15 @@ use Rattle.dep_hub.specs.Holding.{IsHeldAs, KeepsHolding, with_held}
 use Rattle.dep_answers.specs.declared.performed.StoredFile.{StoredFile}
 use Rattle.std.specs.List.{remove}
 use Rattle.dep_hub.specs.Numbers.{place_of_number, Ascends}
-use Rattle.dep_exchange.specs.Owing.{HasBehind, IsPrefixBehind, IsLater, TakesFew}
-use Rattle.dep_hub.specs.Owed.{IsOwed, later_than, bytes_later}
+use Rattle.dep_exchange.specs.Archives.{CountsFailures, FailsIfShut, KeepsState}
+use Rattle.dep_exchange.specs.Owing.{HasBehind, IsPrefixBehind, IsLater, StreamsOn, TakesFew}
+use Rattle.dep_hub.specs.Owed.{IsOwed, behind_then, later_than, bytes_later, told_then}
 use Rattle.dep_hub.specs.RepresentsOwing.{IsPaid, OthersStay, SendsOn, behind_at, is_part}
 use Rattle.dep_exchange.specs.declared.next.Next.{Next}
 use Rattle.dep_exchange.specs.declared.next.Next.TheVariants.{NoSuch}
 use Rattle.dep_hub.specs.declared.sent_on.SentOn.{SentOn}
 use Rattle.dep_hub.specs.declared.sent_on.SentOn.TheVariants.{Part, All, Broken as BrokenOff}
-use Rattle.dep_hub.specs.Claims.{is_content, sends_of}
+use Rattle.dep_hub.specs.Claims.{is_content, is_waiting, sends_of}
 use Rattle.dep_exchange.specs.declared.rest.Rest.{Rest}
 use Rattle.dep_hub.specs.declared.claim.Files.{Files}
 use Rattle.dep_hub.specs.declared.hub.Hub.{Hub}
@@ -34,7 +36,7 @@ use Rattle.dep_hub.specs.declared.rest.Behind.{Behind}
 use Rattle.dep_hub.specs.declared.claim.Claim.{Claim}
 use Rattle.dep_hub.specs.declared.rest.Behind.TheVariants.{Nothing, Content, Broken, Waits, Prepares, Prepared}
 use Rattle.dep_hub.proofs.ConnectionLemmas.{index_some, intake_set}
-use Rattle.dep_exchange.proofs.Leaving.{Settles}
+use Rattle.dep_exchange.proofs.Leaving.{Settles, leaves_once}
 use Rattle.dep_exchange.proofs.OwingLemmas.{few_none}
 
 some_not_none : (o : Option ℕ) → option_map suc o ≡ None → o ≡ None
@@ -119,12 +121,12 @@ owed_later store (Some r) more later disk s represents =
     subst (λ (l : List ℕ). HasBehind s r.file r.sent l) (sym (ap bytes_later later.1)) (later.2 disk s represents)
 
 -- what is paid of what is owed
-pub paid_part : (s : State) (it : StoredFile) (start next : ℕ) (owed sent : List ℕ) → HasBehind s it start owed
+paid_part : (s : State) (it : StoredFile) (start next : ℕ) (owed sent : List ℕ) → HasBehind s it start owed
     → (x : (rest : List ℕ) × HasBehind s it next rest × HasBehind s it start (sent ++ rest) × (sent ≢ []))
     → (rest : List ℕ) × (owed ≡ sent ++ rest) × IsPaid Part sent rest × IsOwed s (Content (record { file = it; sent = next })) rest
 paid_part s it start next owed sent h x = (x.0, one_behind s it start owed (sent ++ x.0) h x.2, x.3, x.1)
 
-pub paid_all : (s : State) (it : StoredFile) (start : ℕ) (owed sent : List ℕ) → HasBehind s it start owed → HasBehind s it start sent
+paid_all : (s : State) (it : StoredFile) (start : ℕ) (owed sent : List ℕ) → HasBehind s it start owed → HasBehind s it start sent
     → (rest : List ℕ) × (owed ≡ sent ++ rest) × IsPaid All sent rest × IsOwed s Nothing rest
 paid_all s it start owed sent h x = ([], one_behind s it start owed sent h x ∙ sym (append-nil sent), refl, refl)
 
@@ -137,10 +139,10 @@ all_sent b (inr (inr (inl (x, e)))) = (λ s owed h. subst (λ (x : Behind). IsOw
 all_sent b (inr (inr (inr e))) = (λ s owed h. subst (λ (x : Behind). IsOwed s x owed) e h, ap is_content e)
 
 -- where no content is left none is sent
-pub sends_nothing : (files : Files) (before : Behind) → false ≡ true → sends_of files before ≡ true
+sends_nothing : (files : Files) (before : Behind) → false ≡ true → sends_of files before ≡ true
 sends_nothing files before e = cc
 
-pub paid_broken : (s : State) (it : StoredFile) (start : ℕ) (owed sent : List ℕ) → HasBehind s it start owed → IsPrefixBehind s it start sent
+paid_broken : (s : State) (it : StoredFile) (start : ℕ) (owed sent : List ℕ) → HasBehind s it start owed → IsPrefixBehind s it start sent
     → (rest : List ℕ) × (owed ≡ sent ++ rest) × IsPaid BrokenOff sent rest × IsOwed s Broken rest
 paid_broken s it start owed sent h x = let y = front_behind s it start owed sent h x in (y.0, y.1, tt, tt)
 
@@ -234,27 +236,72 @@ set_here i [] c e = refl
 set_here zero (x ∷ cs) c e = ap (λ (y : Connection). y ∷ cs) e
 set_here (suc i) (x ∷ cs) c e = ap (λ (l : List Connection). x ∷ l) (set_here i cs c e)
 
-pub behinds_back : (n i : ℕ) (cs : List Connection) (c : Connection) → c ≡ get_or cs i c → (m : ℕ)
-    → behind_at (set cs i c) m ≡ (if m == n then behind_at cs n else behind_at cs m)
-behinds_back n i cs c e m = ap (λ (l : List Connection). behind_at l m) (set_here i cs c e) ∙ behinds_stay n cs m
-
-pub intakes_back : (i : ℕ) (cs : List Connection) (c : Connection) → c ≡ get_or cs i c → (m : ℕ) → intake_of (set cs i c) m ≡ intake_of cs m
-intakes_back i cs c e m = ap (λ (l : List Connection). intake_of l m) (set_here i cs c e)
-
 -- what a connection is still to be sent stays, since nothing is left of it
 module _ {A : Type 0} (condition : A → Condition) (old new : Hub A) (n i : ℕ) (kept : Connection) (index : place_of_number n old.connections.items ≡ Some i)
-    (item : kept ≡ get_or old.connections.items i kept) (config : new.config ≡ old.config) (store : new.store ≡ old.store)
-    (changed : new.connections.items ≡ set old.connections.items i kept) (settles : Settles (condition old.store)) where
-  pub nothing_sent : (answer : SentOn) (taken : Option (List ℕ)) (failures : ℕ) → ((s : State) (owed : List ℕ) → IsOwed s kept.behind owed → IsPaid answer [] owed)
+    (item : kept ≡ get_or old.connections.items i kept) (config : new.config ≡ old.config) where
+  pub nothing_sent : new.store ≡ old.store → new.connections.items ≡ old.connections.items → Settles (condition old.store)
+      → (answer : SentOn) (taken : Option (List ℕ)) (failures : ℕ) → ((s : State) (owed : List ℕ) → IsOwed s kept.behind owed → IsPaid answer [] owed)
       → is_content kept.behind ≡ is_part answer → SendsOn condition taken taken failures failures old new n answer
-  nothing_sent answer taken failures paid left =
+  nothing_sent store same settles answer taken failures paid left =
       let cs = old.connections.items in
       let here = behind_some n i cs kept index item in
       sends_none condition old new n (behind_at cs n) config
-      (λ m. ap (λ (l : List Connection). intake_of l m) changed ∙ intakes_back i cs kept item m)
-      (λ m. ap (λ (l : List Connection). behind_at l m) changed ∙ behinds_back n i cs kept item m)
+      (λ m. ap (λ (l : List Connection). intake_of l m) same)
+      (λ m. ap (λ (l : List Connection). behind_at l m) same ∙ behinds_stay n cs m)
       (ap condition store) settles refl answer taken failures
       (λ s owed owes. paid s owed (subst (λ (b : Behind). IsOwed s b owed) here owes)) (ap is_content here ∙ left)
+
+-- a few blocks more of a content are sent
+module _ {A : Type 0} (condition : A → Condition) (old new : Hub A) (n i : ℕ) (kept : Connection) (index : place_of_number n old.connections.items ≡ Some i)
+    (item : kept ≡ get_or old.connections.items i kept) (config : new.config ≡ old.config) (r : Rest) (is : kept.behind ≡ Content r)
+    (taken takes : Option (List ℕ)) (failures failures_after : ℕ) (few : TakesFew taken takes) where
+  sends_as : (o : Result (Option ℕ) StreamFault) → KeepsState (condition old.store) (condition new.store) o → FailsIfShut (condition old.store) (condition new.store) o
+      → (b : Behind) → new.connections.items ≡ set old.connections.items i (record { number = kept.number; intake = kept.intake; behind = b })
+      → (answer : SentOn) (sent : List ℕ) → Appends taken takes sent
+      → (IsHonest condition new → (s : State) → Represents (condition old.store) s → (owed : List ℕ) → HasBehind s r.file r.sent owed
+      → (rest : List ℕ) × (owed ≡ sent ++ rest) × IsPaid answer sent rest × IsOwed s b rest)
+      → (IsClean condition new → IsHonest condition new → (s : State) → Represents (condition old.store) s → Represents (condition new.store) s)
+      → (answer ≢ BrokenOff → failures_after ≡ failures) → is_content b ≡ is_part answer
+      → ((files : Files) → sends_of files b ≡ true → sends_of files (Content r) ≡ true)
+      → SendsOn condition taken takes failures failures_after old new n answer
+  sends_as o does shut b changed answer sent appends pays stays kept_failures left of_same =
+      sends_on condition old new n b config
+      (intakes_stay n i old.connections.items kept b index item new.connections.items changed)
+      (behinds_are n i old.connections.items kept b index item kept.intake new.connections.items changed)
+      (Content r) (behind_some n i old.connections.items kept index item ∙ is) answer taken takes failures failures_after sent appends pays stays
+      (λ honest s at. leaves_once (condition new.store) s (does.stop honest s at tt)) shut.left kept_failures left few of_same
+
+  sends_more : (o : Result (Option ℕ) StreamFault) → new.connections.items ≡ set old.connections.items i (record { number = kept.number; intake = kept.intake; behind = behind_then r o })
+      → StreamsOn (condition old.store) (condition new.store) taken takes r.file r.sent o → KeepsState (condition old.store) (condition new.store) o
+      → FailsIfShut (condition old.store) (condition new.store) o → CountsFailures failures failures_after o
+      → SendsOn condition taken takes failures failures_after old new n (told_then o)
+  sends_more (Ok (Some next)) changed streams does shut count =
+      sends_as (Ok (Some next)) does shut (Content (record { file = r.file; sent = next })) changed Part streams.0 streams.1
+      (λ honest s at owed owes. paid_part s r.file r.sent next owed streams.0 owes (streams.2 honest s at))
+      (λ clean honest s at. (does.ok honest s at tt).1) (λ _. count.kept) refl (λ files sends. sends)
+  sends_more (Ok None) changed streams does shut count =
+      sends_as (Ok None) does shut Nothing changed All streams.0 streams.1
+      (λ honest s at owed owes. paid_all s r.file r.sent owed streams.0 owes (streams.2 honest s at))
+      (λ clean honest s at. (does.ok honest s at tt).1) (λ _. count.kept) refl (λ files sends. sends_nothing files (Content r) sends)
+  sends_more (Err fault) changed streams does shut count =
+      sends_as (Err fault) does shut Broken changed BrokenOff streams.0 streams.1
+      (λ honest s at owed owes. paid_broken s r.file r.sent owed streams.0 owes (streams.2 honest s at))
+      (λ clean honest s at. does.err clean s at) (λ whole. absurd (whole refl)) refl (λ files sends. sends_nothing files (Content r) sends)
+
+  pub sends_told : (o : Result (Option ℕ) StreamFault) (b : Behind) → b ≡ behind_then r o → (answer : SentOn) → answer ≡ told_then o
+      → new.connections.items ≡ set old.connections.items i (record { number = kept.number; intake = kept.intake; behind = b })
+      → StreamsOn (condition old.store) (condition new.store) taken takes r.file r.sent o → KeepsState (condition old.store) (condition new.store) o
+      → FailsIfShut (condition old.store) (condition new.store) o → CountsFailures failures failures_after o
+      → SendsOn condition taken takes failures failures_after old new n answer
+  sends_told o b left answer told changed streams does shut count =
+      subst (λ (x : SentOn). SendsOn condition taken takes failures failures_after old new n x) (sym told)
+      (sends_more o (changed ∙ (λ j. set old.connections.items i (record { number = kept.number; intake = kept.intake; behind = left j }))) streams does shut count)
+
+-- no request waits there
+pub then_no_wait : (r : Rest) (o : Result (Option ℕ) StreamFault) → is_waiting (behind_then r o) ≡ false
+then_no_wait r (Ok (Some next)) = refl
+then_no_wait r (Ok None) = refl
+then_no_wait r (Err fault) = refl
 
 -- ---- by what stands behind each reply now
 

@@ -1,6 +1,8 @@
 -- What a hub represents, after each of its calls.
-use Rattle.std.proofs.Common.{◌≡◌, ◌≢◌, ◌⊎◌, ℕ, ◌==◌, Bool, true, false, List, [], ◌∷◌, ◌++◌, get_or, set, Option, Some, None, if◌then◌else◌, IsTrue, refl, sym, ap, subst, ◌∙◌, append_assoc, arith, inl, inr}
+use Rattle.std.proofs.Common.{◌≡◌, ◌≢◌, ◌⊎◌, ℕ, ◌==◌, Bool, true, false, List, [], ◌∷◌, ◌++◌, length, get_or, set, Option, Some, None, if◌then◌else◌, IsTrue, refl, sym, ap, subst, ◌∙◌, append_assoc, arith, inl, inr}
 use Rattle.std.specs.Prelude.{IsSome}
+use Rattle.std.specs.Coded.{Coded-set, coded_ℕ}
+use Rattle.std.specs.Vec.{with_item}
 use Rattle.std.proofs.Math.Bool.{Bool-set}
 use Rattle.std.proofs.lemmas.Bool.{eqb-true, eq-eqb}
 use Rattle.dep_types.specs.State.{State, empty_state}
@@ -277,6 +279,18 @@ same_hub hub a b w i = record hub {
   busy = Bool-set hub.is_busy (is_any_pending hub.connections.items) b hub.busy i;
   awaiting = Bool-set hub.is_awaiting (is_any_waiting hub.connections.items) w hub.awaiting i;
 }
+
+-- so it is where the connections are written back as they were
+same_items : {A : Type 0} (hub : Hub A) (cs : List Connection) → cs ≡ hub.connections.items → (fits : hub.connections.len ≡ length cs)
+    → record hub.connections { items = cs; ok = (fits, hub.connections.ok.1) } ≡ hub.connections
+same_items hub cs e = subst (λ (xs : List Connection). (fits : hub.connections.len ≡ length xs) → record hub.connections { items = xs; ok = (fits, hub.connections.ok.1) } ≡ hub.connections)
+    (sym e) (λ fits i. record hub.connections { ok = (Coded-set coded_ℕ hub.connections.len (length hub.connections.items) fits hub.connections.ok.0 i, hub.connections.ok.1) })
+
+pub same_again : {A : Type 0} (hub : Hub A) (i : ℕ) (c : Connection) → set hub.connections.items i c ≡ hub.connections.items
+    → (a : Ascends 0 (set hub.connections.items i c) hub.next) (b : hub.is_busy ≡ is_any_pending (set hub.connections.items i c))
+    (w : hub.is_awaiting ≡ is_any_waiting (set hub.connections.items i c)) → record hub { connections = with_item hub.connections i c; ascends = a; busy = b; awaiting = w } ≡ hub
+same_again hub i c e = subst (λ v. (a : Ascends 0 v.items hub.next) (b : hub.is_busy ≡ is_any_pending v.items) (w : hub.is_awaiting ≡ is_any_waiting v.items)
+    → record hub { connections = v; ascends = a; busy = b; awaiting = w } ≡ hub) (sym (same_items hub (set hub.connections.items i c) e (with_item hub.connections i c).ok.0)) (same_hub hub)
 
 module _ {A : Type 0} (condition : A → Condition) (old new : Hub A) (n i : ℕ) (piece : List ℕ) (moment : ℕ) (c : Connection) (now : Reading) (b : Behind)
     (index : place_of_number n old.connections.items ≡ Some i) (item : c ≡ get_or old.connections.items i c)

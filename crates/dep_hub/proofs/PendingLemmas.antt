@@ -1,5 +1,5 @@
 -- Contents that are being sent, and requests that wait.
-use Rattle.std.proofs.Common.{◌≡◌, ◌≢◌, ◌⊎◌, inl, inr, ℕ, suc, zero, ◌==◌, ◌+◌, ◌≤◌, ◌||◌, Bool, true, false, List, [], ◌∷◌, ◌++◌, get_or, set, Option, None, Some, if◌then◌else◌, refl, sym, ap, subst, ◌∙◌, arith}
+use Rattle.std.proofs.Common.{◌≡◌, ◌≢◌, ◌⊎◌, inl, inr, ℕ, suc, zero, ◌==◌, ◌+◌, ◌≤◌, ◌<◌, ◌||◌, Bool, true, false, List, [], ◌∷◌, ◌++◌, length, get_or, set, Option, None, Some, if◌then◌else◌, refl, sym, ap, subst, ◌∙◌, arith}
 use Rattle.std.proofs.lemmas.Bool.{eq-eqb, eqb-true}
 use Rattle.std.proofs.lemmas.Bool.Decides.{nat_tests}
 use Rattle.std.specs.List.{list_any}
@@ -26,6 +26,10 @@ use Rattle.dep_hub.proofs.BehindLemmas.{either_false, or_parts}
 
 -- ---- what is so with some connection, where one changes
 
+or_true : (b : Bool) → (b || true) ≡ true
+or_true true = refl
+or_true false = refl
+
 module _ (f : Behind → Bool) where
   abbrev pub any_is : List Connection → Bool
   any_is cs = list_any (λ (c : Connection). f c.behind) cs
@@ -38,6 +42,11 @@ module _ (f : Behind → Bool) where
   any_set i [] c d item e = refl
   any_set zero (x ∷ cs) c d item e = ap (λ (b : Bool). b || any_is cs) (e ∙ ap (λ (y : Connection). f y.behind) item)
   any_set (suc i) (x ∷ cs) c d item e = ap (λ (b : Bool). f x.behind || b) (any_set i cs c d item e)
+
+  pub any_here : (i : ℕ) (cs : List Connection) (d : Connection) → i < length cs → f d.behind ≡ true → any_is (set cs i d) ≡ true
+  any_here i [] d l e = absurd (omega (arith, l))
+  any_here zero (x ∷ cs) d l e = ap (λ (b : Bool). b || any_is cs) e
+  any_here (suc i) (x ∷ cs) d l e = ap (λ (b : Bool). f x.behind || b) (any_here i cs d (omega (arith, l)) e) ∙ or_true (f x.behind)
 
   pub any_unset : (i : ℕ) (cs : List Connection) (d : Connection) → f d.behind ≡ false → any_is cs ≡ false → any_is (set cs i d) ≡ false
   any_unset i [] d e none = refl
@@ -75,10 +84,6 @@ none_awaited cs Prepared e = refl
 
 pub true_false : true ≡ false → ⊥
 true_false e = cc e
-
-or_true : (b : Bool) → (b || true) ≡ true
-or_true true = refl
-or_true false = refl
 
 found_in : (f : Behind → Bool) (low high : ℕ) (c : Connection) (cs : List Connection) (b : Bool) → Ascends low (c ∷ cs) high → f c.behind ≡ b
     → (b || list_any (λ (x : Connection). f x.behind) cs) ≡ true
@@ -193,9 +198,6 @@ waits_unsent claim Prepared u e = cc e
 
 one_claim : (b : Behind) (claim other : Claim) → b ≡ Waits claim → b ≡ Waits other → other ≡ claim
 one_claim b claim other e f = let same : Waits other ≡ Waits claim = sym f ∙ e in cc
-
-waits_nothing : (claim : Claim) → Nothing ≡ Waits claim → ⊥
-waits_nothing claim e = cc e
 
 waits_prepared : (claim : Claim) → Prepared ≡ Waits claim → ⊥
 waits_prepared claim e = cc e

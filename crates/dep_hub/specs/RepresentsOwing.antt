@@ -120,12 +120,6 @@ NextIsAnswerable connections number = (reading : Reading)
     → intake_of connections number ≡ Some reading
     → IsAnswerable connections reading (behind_at connections number)
 
--- it is not, and this is behind its last reply from now on
-abbrev pub NextIsKeptBack : List Connection → (number : ℕ) → Behind → Type 0
-NextIsKeptBack connections number now = (reading : Reading)
-    → intake_of connections number ≡ Some reading
-    → KeptBack connections reading (behind_at connections number) now
-
 -- ---- a hub
 
 -- what the bytes that were owed are, once so many were sent, by what that came to

@@ -1,7 +1,7 @@
 //! What requests have to do with contents that are sent in steps.
 ghost use Rattle.std.specs.Prelude.{◌≡◌, IfOk};
 ghost use Rattle.dep_hub.specs.Claims as spec;
-ghost use Rattle.dep_hub.specs.Claims.{claim_by, claim_to, has_file, read_claim, taken_of};
+ghost use Rattle.dep_hub.specs.Claims.{claim_by, has_file, read_claim, taken_of};
 
 use dep_bag::file_number;
 use dep_exchange::Site;
@@ -58,18 +58,12 @@ fn claim_for(routed: &Routed) -> Claim
     ensures { result ≡ claim_by routed.now }
 {
     match routed {
-        Routed::To(target) => claim_on(&target.resource, target.method),
+        Routed::To(target) => match target.method {
+            Method::Put | Method::Delete => taken_with(&target.resource),
+            Method::Get => read_at(&target.resource),
+            Method::Head | Method::Post => Claim::Neither,
+        },
         Routed::NotFound | Routed::NotAllowed(_) => Claim::Neither,
-    }
-}
-
-fn claim_on(resource: &Resource, method: Method) -> Claim
-    ensures { result ≡ claim_to resource.now method }
-{
-    match method {
-        Method::Put | Method::Delete => taken_with(resource),
-        Method::Get => read_at(resource),
-        Method::Head | Method::Post => Claim::Neither,
     }
 }
 

@@ -1,5 +1,5 @@
 //! All connections, and the one store that they share.
-ghost use Rattle.std.specs.Prelude.{◌+◌, ◌≡◌, ◌≤◌, [], ◌∷◌, ◌++◌, List, length, MatchOption, MatchResult, IfOk, IfErr, OnErr, IfSome, None, IsErrOf, IsSome, ◌⊎◌, ◌≢◌};
+ghost use Rattle.std.specs.Prelude.{◌+◌, ◌≡◌, ◌≤◌, [], ◌∷◌, ◌++◌, List, length, MatchResult, IfOk, IfErr, OnErr, IfSome, None, IsErrOf, IsSome, ◌⊎◌, ◌≢◌};
 ghost use Rattle.dep_types.specs.State.{State};
 ghost use Rattle.dep_types.specs.Config.{IsChecked};
 ghost use Rattle.dep_types.specs.Conditions.{Represents, Leaves};
@@ -15,10 +15,10 @@ use crate::pending::{
     waits_on,
 };
 use crate::preparing::prepare;
-use crate::rest::{Behind, behind_of};
+use crate::rest::{Behind, behind_of, left_of};
 use crate::sent_on::SentOn;
 use dep_exchange::{
-    AccessLog, Archive, Arrived, Contents, Context, Next, NoLog, Piece, Rest, Site, give_up, serve,
+    AccessLog, Archive, Arrived, Contents, Context, Next, NoLog, Piece, Site, give_up, serve,
     take_next,
 };
 use dep_message::Intake;
@@ -52,7 +52,7 @@ const LAST_NUMBER: u64 = 4_000_000_000_000_000_000;
 impl<A: Archive> Hub<A> {
     ghost use Rattle.dep_hub.specs.Representing.{RepresentsAfter, RepresentsAt, GoesOnFrom, GoesOnAs, IsHonest, KeepsStore, LeavesStore, LeavesItsState, store_of, AddsRecord, Transition, ComesTo, intake_of};
     ghost use Rattle.dep_hub.specs.Holding.{HoldsOn, RestsOn, LineTransition, OffersTo, with_held};
-    ghost use Rattle.dep_hub.specs.RepresentsOwing.{behind_at, is_awaited_at, KeepsBack, NextIsAnswerable, NextIsFree, NextIsKeptBack, NextIsPrepared, RepliesOver, SendsOn};
+    ghost use Rattle.dep_hub.specs.RepresentsOwing.{behind_at, is_awaited_at, KeepsBack, NextIsAnswerable, NextIsFree, NextIsPrepared, RepliesOver, SendsOn};
     ghost use Rattle.dep_hub.specs.Claims.{is_content};
     ghost use Rattle.dep_hub.specs.WorkingAhead.{RestsAhead};
     ghost use Rattle.dep_hub.specs.Numbers.{place_of_number};
@@ -249,8 +249,7 @@ impl<A: Archive> Hub<A> {
         let Some(i) = index_among(self.connections.as_slice(), connection) else {
             return Some(Next::NoSuch);
         };
-        if let Some(behind) = self.kept_back(connection, i) {
-            self.keep_back(connection, i, behind);
+        if self.keeps_back(connection, i) {
             return None;
         }
         let listed = ListedConnection {
@@ -260,37 +259,28 @@ impl<A: Archive> Hub<A> {
         Some(self.answer_at(listed, moment, out, log))
     }
 
-    // What is behind the last reply of a connection from now on, if no further item is answered.
-    fn kept_back(&mut self, connection: ConnId, i: usize) -> Option<Behind>
+    // Keeps the next request of a connection back, unless its next item may be answered: whether it does.
+    fn keeps_back(&mut self, connection: ConnId, i: usize) -> bool
         requires index { place_of_number connection self.old.connections.items ≡ Some i }
         requires within { i < length self.old.connections.items }
-        ensures same { self.new ≡ self.old }
-        ensures found { MatchOption result
-            (NextIsAnswerable self.old.connections.items connection)
-            (NextIsKeptBack self.old.connections.items connection) }
-    {
-        let kept = &self.connections[i];
-        if waits_on(self.connections.as_slice(), kept.behind) {
-            return Some(kept.behind);
-        }
-        let look = look_at(&self.config, self.is_busy, &mut self.connections[i]);
-        kept_by(self.connections.as_slice(), look)
-    }
-
-    // Keeps the next request of a connection back: this is behind its last reply from now on.
-    fn keep_back(&mut self, connection: ConnId, i: usize, behind: Behind)
-        requires index { place_of_number connection self.old.connections.items ≡ Some i }
-        requires within { i < length self.old.connections.items }
-        requires kept { NextIsKeptBack self.old.connections.items connection behind }
-        ensures goes { GoesOnAs A.condition self.old self.new }
-        ensures there { IsSome (intake_of self.new.connections.items connection) }
-        ensures keeps { (taken : Option (List ℕ)) (failures : ℕ)
+        ensures answerable { result ≡ false → (self.new ≡ self.old)
+            × NextIsAnswerable self.old.connections.items connection }
+        ensures kept { result ≡ true → (taken : Option (List ℕ)) (failures : ℕ)
             → KeepsBack A.condition taken taken failures failures self.old self.new connection }
         ensures turn { self.new.last_turn ≡ self.old.last_turn }
     {
+        let kept = &self.connections[i];
+        if waits_on(self.connections.as_slice(), kept.behind) {
+            return true;
+        }
+        let look = look_at(&self.config, self.is_busy, &mut self.connections[i]);
+        let Some(behind) = kept_by(self.connections.as_slice(), look) else {
+            return false;
+        };
         self.connections[i].behind = behind;
         self.is_busy = is_any_pending(self.connections.as_slice());
         self.is_awaiting = is_any_waiting(self.connections.as_slice());
+        true
     }
 
     // Answers the next item of a connection, which isn't kept back.
@@ -367,30 +357,17 @@ impl<A: Archive> Hub<A> {
         let Some(i) = index_among(self.connections.as_slice(), connection) else {
             return SentOn::All;
         };
-        let kept = &mut self.connections[i];
-        match kept.behind {
+        match self.connections[i].behind {
             Behind::Nothing | Behind::Waits(_) | Behind::Prepares(_) | Behind::Prepared =>
                 SentOn::All,
             Behind::Broken => SentOn::Broken,
-            Behind::Content(rest) => match self.store.stream_on(rest, out) {
-                Ok(Some(sent)) => {
-                    kept.behind = Behind::Content(Rest {
-                        file: rest.file,
-                        sent,
-                    });
-                    SentOn::Part
-                }
-                Ok(None) => {
-                    kept.behind = Behind::Nothing;
-                    self.is_busy = is_any_pending(self.connections.as_slice());
-                    SentOn::All
-                }
-                Err(_) => {
-                    kept.behind = Behind::Broken;
-                    self.is_busy = is_any_pending(self.connections.as_slice());
-                    SentOn::Broken
-                }
-            },
+            Behind::Content(rest) => {
+                let streamed = self.store.stream_on(rest, out);
+                let (left, sent_on) = left_of(rest, streamed);
+                self.connections[i].behind = left;
+                self.is_busy = still_pending(self.connections.as_slice(), self.is_busy, left);
+                sent_on
+            }
         }
     }
 
@@ -424,8 +401,9 @@ impl<A: Archive> Hub<A> {
         let Some(i) = next_prepared(self.connections.as_slice(), self.last_turn, self.next) else {
             return self.store.work_ahead(self.config.service(), None);
         };
-        self.last_turn = self.connections[i].number;
-        prepare(&self.config, &mut self.store, &mut self.connections[i])
+        let kept = &mut self.connections[i];
+        self.last_turn = kept.number;
+        prepare(&self.config, &mut self.store, kept)
     }
 
     /// Forgets a connection. What it holds is dropped, and one that isn't there changes nothing.

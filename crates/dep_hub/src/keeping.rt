@@ -1,9 +1,8 @@
 //! Requests that are kept back.
-ghost use Rattle.std.specs.Prelude.{◌≡◌, ◌⊎◌, List, false, true, IfOk, MatchOption, MatchResult};
-ghost use Rattle.dep_message.specs.Giving.{HasFirstHead};
+ghost use Rattle.std.specs.Prelude.{◌≡◌, ◌⊎◌, List, true, IfOk, MatchOption};
 ghost use Rattle.dep_message.specs.Places.{Reading};
 ghost use Rattle.dep_hub.specs.Claims.{is_any_pending};
-ghost use Rattle.dep_hub.specs.Looks.{SeesHead, ShowsItem, is_new, is_to_prepare as spec_is_to_prepare};
+ghost use Rattle.dep_hub.specs.Looks.{SeesHead, ShowsItem, is_to_prepare as spec_is_to_prepare};
 ghost use Rattle.dep_hub.specs.RepresentsOwing.{IsAnswerable, MayBeLookedAt, KeptBack};
 ghost use Rattle.dep_hub.specs.declared.connections.Connection.{Connection as AConnection};
 ghost use Rattle.dep_hub.specs.declared.rest.Behind.{Behind as ABehind};
@@ -64,7 +63,10 @@ pub(crate) fn look_at(site: &Site, is_busy: bool, connection: &mut Connection) -
         Behind::Content(_) | Behind::Broken | Behind::Prepares(_) => Look::Kept(was),
         Behind::Nothing => look_at_next(site, is_busy, was, &mut connection.intake),
         Behind::Waits(_) | Behind::Prepared => {
-            look_again(site, is_busy, was, &mut connection.intake)
+            if !is_busy {
+                return Look::Free;
+            }
+            look_at_next(site, is_busy, was, &mut connection.intake)
         }
     }
 }
@@ -87,20 +89,6 @@ pub(crate) fn kept_by(connections: &[Connection], look: Look) -> Option<Behind>
     }
 }
 
-// What a look shows where the next request was looked at before.
-fn look_again(site: &Site, is_busy: bool, was: Behind, intake: &mut Intake) -> Look
-    requires ready { MayBeLookedAt was }
-    requires seen { is_new was ≡ false }
-    ensures same { intake.new ≡ intake.old }
-    ensures shows { (connections : List AConnection) → is_busy ≡ is_any_pending connections
-        → ShowsItem connections intake.old was result }
-{
-    if !is_busy {
-        return Look::Free;
-    }
-    look_at_next(site, is_busy, was, intake)
-}
-
 // Looks at the next request behind a reply that was all sent. Where memory runs out it isn't prepared any more.
 fn look_at_next(site: &Site, is_busy: bool, was: Behind, intake: &mut Intake) -> Look
     requires ready { MayBeLookedAt was }
@@ -109,37 +97,15 @@ fn look_at_next(site: &Site, is_busy: bool, was: Behind, intake: &mut Intake) ->
     ensures shows { (connections : List AConnection) → is_busy ≡ is_any_pending connections
         → ShowsItem connections intake.old was result }
 {
-    match seen_of_next(site, is_busy, was, intake) {
-        Ok(look) => look,
-        Err(AllocError) => Look::Kept(Behind::Prepared),
-    }
-}
-
-// What is seen of the next request of an intake, where it has come whole. An `Err` is lack of memory.
-fn seen_of_next(
-    site: &Site,
-    is_busy: bool,
-    was: Behind,
-    intake: &mut Intake,
-) -> Result<Look, AllocError>
-    requires { MayBeLookedAt was }
-    ensures same { intake.new ≡ intake.old }
-    ensures shows { MatchResult result
-        (λ look. (connections : List AConnection) → is_busy ≡ is_any_pending connections
-        → ShowsItem connections intake.old was look)
-        (λ _. HasFirstHead intake.old.place) }
-{
     let mut looks = Looks {
         site,
         was,
         is_busy,
         look: Ok(Look::Free),
     };
-    if intake.preview(&mut looks)? {
-        looks.look
-    } else {
-        Ok(Look::Free)
-    }
+    // Where no request was shown, that is the look with which it began.
+    let seen = intake.preview(&mut looks).and(looks.look);
+    seen.unwrap_or(Look::Kept(Behind::Prepared))
 }
 
 // What is seen of a request at its head. An `Err` is lack of memory.

@@ -1,10 +1,10 @@
 //! Contents that are being sent, and requests that wait.
-ghost use Rattle.std.specs.Prelude.{◌≡◌, false, MatchOption};
+ghost use Rattle.std.specs.Prelude.{◌≡◌, false, true, MatchOption};
 ghost use Rattle.dep_hub.specs.Claims as spec;
-ghost use Rattle.dep_hub.specs.Claims.{is_awaited_by, sends_of};
+ghost use Rattle.dep_hub.specs.Claims.{is_awaited_by};
 ghost use Rattle.dep_hub.specs.Preparing.{HasTurn, HaveAtMost, IsGreatestBelow, prepared_below as spec_prepared_below};
 
-use crate::claim::{Claim, Files};
+use crate::claim::Claim;
 use crate::connections::Connection;
 use crate::rest::Behind;
 
@@ -12,21 +12,25 @@ use crate::rest::Behind;
 pub(crate) fn is_any_pending(connections: &[Connection]) -> bool
     ensures { result ≡ spec.is_any_pending connections.now }
 {
-    connections
-        .iter()
-        .any(|connection| is_pending(connection.behind))
+    for connection in connections {
+        if is_pending(connection.behind) {
+            return true;
+        }
+    }
+    false
 }
 
 /// The same where a connection has come to this, and before that nothing was pending, or something was.
 pub(crate) fn still_pending(connections: &[Connection], before: bool, behind: Behind) -> bool
-    requires { before ≡ false → spec.is_pending behind ≡ false
+    requires here { spec.is_pending behind ≡ true → spec.is_any_pending connections.now ≡ true }
+    requires others { before ≡ false → spec.is_pending behind ≡ false
         → spec.is_any_pending connections.now ≡ false }
     ensures { result ≡ spec.is_any_pending connections.now }
 {
-    if before {
-        return is_any_pending(connections);
-    }
     if is_pending(behind) {
+        return true;
+    }
+    if before {
         return is_any_pending(connections);
     }
     false
@@ -36,9 +40,12 @@ pub(crate) fn still_pending(connections: &[Connection], before: bool, behind: Be
 pub(crate) fn is_any_waiting(connections: &[Connection]) -> bool
     ensures { result ≡ spec.is_any_waiting connections.now }
 {
-    connections
-        .iter()
-        .any(|connection| is_waiting(connection.behind))
+    for connection in connections {
+        if let Behind::Waits(_) = connection.behind {
+            return true;
+        }
+    }
+    false
 }
 
 /// The same where no request waits that didn't before.
@@ -50,15 +57,6 @@ pub(crate) fn still_waiting(connections: &[Connection], before: bool) -> bool
         return is_any_waiting(connections);
     }
     false
-}
-
-fn is_waiting(behind: Behind) -> bool
-    ensures { result ≡ spec.is_waiting behind }
-{
-    match behind {
-        Behind::Waits(_) => true,
-        _ => false,
-    }
 }
 
 /// The place of the one whose turn it is, of those whose next request is prepared, behind the turn of a number: of those
@@ -115,9 +113,12 @@ fn is_pending(behind: Behind) -> bool
 pub(crate) fn has_to_wait(connections: &[Connection], claim: Claim) -> bool
     ensures { result ≡ spec.has_to_wait connections.now claim }
 {
-    connections
-        .iter()
-        .any(|connection| is_in_the_way(claim, connection.behind))
+    for connection in connections {
+        if is_in_the_way(claim, connection.behind) {
+            return true;
+        }
+    }
+    false
 }
 
 /// Whether a request that waits has to wait still.
@@ -133,29 +134,9 @@ pub(crate) fn waits_on(connections: &[Connection], behind: Behind) -> bool
 fn is_in_the_way(claim: Claim, behind: Behind) -> bool
     ensures { result ≡ spec.is_in_the_way claim behind }
 {
-    match claim {
-        Claim::Takes(files) => is_sent(files, behind),
-        Claim::Reads(object, file) => waits_to_take(object, file, behind),
-        Claim::Neither => false,
-    }
-}
-
-// Whether a content of these files is being sent.
-fn is_sent(files: Files, behind: Behind) -> bool
-    ensures { result ≡ sends_of files behind }
-{
-    match behind {
-        Behind::Content(rest) => files.has(rest.file.object, rest.file.file),
-        _ => false,
-    }
-}
-
-// Whether the request that waits takes the file.
-fn waits_to_take(object: u64, file: u64, behind: Behind) -> bool
-    ensures { result ≡ spec.waits_to_take object file behind }
-{
-    match behind {
-        Behind::Waits(Claim::Takes(files)) => files.has(object, file),
+    match (claim, behind) {
+        (Claim::Takes(files), Behind::Content(rest)) => files.has(rest.file.object, rest.file.file),
+        (Claim::Reads(object, file), Behind::Waits(Claim::Takes(files))) => files.has(object, file),
         _ => false,
     }
 }

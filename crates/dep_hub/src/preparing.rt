@@ -1,5 +1,5 @@
 //! Requests that are prepared before they are answered: the uploads that they name are hashed in steps.
-ghost use Rattle.std.specs.Prelude.{◌≡◌, true, MatchOption};
+ghost use Rattle.std.specs.Prelude.{◌≡◌, true};
 ghost use Rattle.dep_hub.specs.Preparing.{MakesStepFor, Works, is_preparing};
 
 use crate::connections::Connection;
@@ -8,7 +8,7 @@ use dep_decisions::Operation;
 use dep_exchange::{Archive, Site};
 use dep_fields::SwordFields;
 use dep_head::Head;
-use dep_message::{Intake, Message, Preview, closes};
+use dep_message::{Message, Preview, closes};
 use dep_router::Routed;
 use dep_tags::IfMatch;
 use dep_types::Target;
@@ -94,21 +94,6 @@ fn work_for<A: Archive>(
     (Message { head, content }, is_left)
 }
 
-// Has the archive work ahead for the next request of an intake, where that has come whole and can be read.
-fn work_for_next<A: Archive>(site: &Site, store: &mut A, intake: &mut Intake) -> Option<bool>
-    ensures same { intake.new ≡ intake.old }
-    ensures works { MatchOption result (store.new ≡ store.old)
-        (Works A.call_log A.may_commit A.condition store.old store.new) }
-{
-    let mut ahead = Ahead {
-        site,
-        store,
-        is_left: None,
-    };
-    let _ = intake.preview(&mut ahead);
-    ahead.is_left
-}
-
 /// Makes a step for the next request of a connection that is prepared, and returns whether the archive has more to do.
 pub(crate) fn prepare<A: Archive>(site: &Site, store: &mut A, connection: &mut Connection) -> bool
     requires { is_preparing connection.old.behind ≡ true }
@@ -117,7 +102,14 @@ pub(crate) fn prepare<A: Archive>(site: &Site, store: &mut A, connection: &mut C
     ensures intake { connection.new.intake ≡ connection.old.intake }
     ensures step { MakesStepFor connection.old.behind connection.new.behind }
 {
-    match work_for_next(site, store, &mut connection.intake) {
+    // The archive is asked where the request has come whole and can be read.
+    let mut ahead = Ahead {
+        site,
+        store,
+        is_left: None,
+    };
+    let _ = connection.intake.preview(&mut ahead);
+    match ahead.is_left {
         Some(is_left) => {
             connection.behind = stepped(connection.behind, is_left);
             is_left

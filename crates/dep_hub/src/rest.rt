@@ -1,10 +1,12 @@
 //! What is still to be sent of a reply.
 
 ghost use Rattle.std.specs.Prelude.{◌≡◌};
-ghost use Rattle.dep_hub.specs.Owed.{later_than};
+ghost use Rattle.dep_hub.specs.Owed.{behind_then, later_than, told_then};
 
 use crate::claim::Claim;
+use crate::sent_on::SentOn;
 use dep_exchange::Rest;
+use dep_types::StreamFault;
 
 /// What is behind the last reply of a connection.
 #[derive(Clone, Copy)]
@@ -30,5 +32,23 @@ pub(crate) fn behind_of(rest: Option<Rest>) -> Behind
     match rest {
         Some(rest) => Behind::Content(rest),
         None => Behind::Nothing,
+    }
+}
+
+/// What is behind a reply once a few blocks more of its content were sent, and what came of that.
+pub(crate) fn left_of(rest: Rest, streamed: Result<Option<u64>, StreamFault>) -> (Behind, SentOn)
+    ensures behind { result.0 ≡ behind_then rest streamed }
+    ensures told { result.1 ≡ told_then streamed }
+{
+    match streamed {
+        Ok(Some(sent)) => {
+            let left = Rest {
+                file: rest.file,
+                sent,
+            };
+            (Behind::Content(left), SentOn::Part)
+        }
+        Ok(None) => (Behind::Nothing, SentOn::All),
+        Err(_) => (Behind::Broken, SentOn::Broken),
     }
 }

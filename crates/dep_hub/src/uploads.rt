@@ -1,5 +1,5 @@
 //! Requests whose documents name uploads.
-ghost use Rattle.std.specs.Prelude.{◌≡◌, IfOk, codes, bytes_eq, ◌||◌};
+ghost use Rattle.std.specs.Prelude.{◌≡◌, IfOk};
 ghost use Rattle.dep_hub.specs.Preparing as spec;
 
 use dep_fields::{SwordFields, is_by_reference};
@@ -11,17 +11,12 @@ use std::alloc::{AllocError, Global};
 pub(crate) fn names_uploads(alloc: Global, head: &Head) -> Result<bool, AllocError>
     ensures { IfOk result (λ named. named ≡ spec.names_uploads head.now) }
 {
-    if !is_post_or_put(head.method()) {
+    let method = head.method();
+    if method != b"POST".as_slice() && method != b"PUT".as_slice() {
         return Ok(false);
     }
     let fields = SwordFields::read(alloc, head)?;
     let is_named = is_by_reference(&fields.disposition);
     drop(fields);
     Ok(is_named)
-}
-
-fn is_post_or_put(method: &[u8]) -> bool
-    ensures { result ≡ (bytes_eq method.now (codes "POST") || bytes_eq method.now (codes "PUT")) }
-{
-    method == b"POST".as_slice() || method == b"PUT".as_slice()
 }

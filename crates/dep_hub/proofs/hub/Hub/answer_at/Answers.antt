@@ -11,12 +11,17 @@ use Rattle.dep_hub.proofs.HubLemmas.{stays_there}
 use Rattle.dep_hub.proofs.HoldingLemmas.{comes_next}
 use Rattle.dep_exchange.proofs.NextLemmas.{next_there, next_passes}
 use Rattle.dep_hub.proofs.BehindLemmas.{behinds_are, others_are, owed_at, owed_later}
-use Rattle.dep_hub.proofs.PendingLemmas.{any_unset, not_broken, not_looked, not_waiting}
+use Rattle.dep_hub.proofs.PendingLemmas.{any_here, any_unset, not_broken, not_looked, not_waiting}
 use Rattle.dep_hub.proofs.SourceLemmas.{begins_unawaited}
 use Rattle.dep_hub.proofs.hub.Hub.answer_at.Goals as goal
 
-pub still_pending-self-requires : goal.still_pending-self-requires
-still_pending-self-requires g c before none =
+pub still_pending-self-requires-clause-here : goal.still_pending-self-requires-clause-here
+still_pending-self-requires-clause-here g c e =
+    ap is_any_pending c.as_slice.ensures.value
+    ∙ any_here is_pending c.args.listed.index c.args.self.now.connections.items (record { number = c.index_mut-kept.result.now.number; intake = c.take_next-next.new.intake; behind = c.behind_of-behind.result }) c.requires.within e
+
+pub still_pending-self-requires-clause-others : goal.still_pending-self-requires-clause-others
+still_pending-self-requires-clause-others g c before none =
     let kept = c.index_mut-kept.result.now in
     ap is_any_pending c.as_slice.ensures.value
     ∙ any_unset is_pending c.args.listed.index c.args.self.now.connections.items (record { number = kept.number; intake = c.take_next-next.new.intake; behind = c.behind_of-behind.result }) none
@@ -43,7 +48,7 @@ returns-clause-goes g c =
     let old = outside (g.O.Outlet.taken c.args.out.now) (g.O.Outlet.failures c.args.out.now) (g.A.Archive.condition c.args.self.now.store) in
     let new = outside (with_more (g.O.Outlet.taken c.take_next-next.new.out) y.0) (g.O.Outlet.failures c.take_next-next.new.out) (g.A.Archive.condition c.take_next-next.new.store) in
     let passes = (next_passes c.args.self.now.config c.index_mut-kept.result.now.intake c.args.moment old new c.take_next-next.new.intake.place c.take_next-next.result.0 y.3.answers).1 in
-    record { config = refl; next = refl; clean = passes.clean; honest = passes.honest }
+    record { config = refl {a = c.args.self.now.config}; next = refl {a = c.args.self.now.next}; clean = passes.clean; honest = passes.honest }
 
 pub returns-clause-there : goal.returns-clause-there
 returns-clause-there g c =

@@ -14,7 +14,7 @@ returns-in_default g c = record {
     same = same_hub c.args.self.now _ _ _;
     sends_nothing = Keeps-refl (g.O.Outlet.taken c.args.out.now);
   };
-  turn = refl;
+  turn = refl {a = c.args.self.now.last_turn};
 }
 
 pub returns : goal.returns
@@ -27,7 +27,7 @@ returns g c =
           (g.met.A.Archive.honest_if_open store)
           (g.met.A.Archive.settled store)
           (g.O.Outlet.taken c.args.out.now) (g.O.Outlet.taken c.serve.new.out) (g.O.Outlet.failures c.args.out.now) (g.O.Outlet.failures c.serve.new.out) c.serve.result c.serve.ensures.there c.serve.ensures.served;
-      turn = refl;
+      turn = refl {a = c.args.self.now.last_turn};
     }
 
 pub invariant_of-self-2 : goal.invariant_of-self-2

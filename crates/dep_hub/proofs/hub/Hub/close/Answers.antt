@@ -27,12 +27,12 @@ returns-in-Some g c =
       behind = λ m. ap (λ (cs : List Connection). behind_at cs m) c.remove.ensures.items
           ∙ behind_remove c.args.connection 0 c.args.self.now.next c.in-Some.i c.args.self.now.connections.items index c.args.self.now.ascends m;
       kept = record {
-        config = refl;
-        next = refl;
-        store = refl;
+        config = refl {a = c.args.self.now.config};
+        next = refl {a = c.args.self.now.next};
+        store = refl {a = c.args.self.now.store};
         rests = leaves_as_before g.A.Archive.condition c.args.self.now _ refl (g.met.A.Archive.settled c.args.self.now.store);
       };
-      turn = refl;
+      turn = refl {a = c.args.self.now.last_turn};
     }
 
 -- there is no such connection
@@ -49,12 +49,12 @@ returns-in_default g c =
       behind = behind_gone c.args.connection c.args.self.now.connections.items
           (behind_none c.args.connection c.args.self.now.connections.items (ap (place_of_number c.args.connection) (sym c.as_slice.ensures.value) ∙ (sym c.index_among.ensures.value ∙ c.in_default.is)));
       kept = record {
-        config = refl;
-        next = refl;
-        store = refl;
+        config = refl {a = c.args.self.now.config};
+        next = refl {a = c.args.self.now.next};
+        store = refl {a = c.args.self.now.store};
         rests = leaves_as_before g.A.Archive.condition c.args.self.now _ refl (g.met.A.Archive.settled c.args.self.now.store);
       };
-      turn = refl;
+      turn = refl {a = c.args.self.now.last_turn};
     }
 
 pub invariant_of-self : goal.invariant_of-self

@@ -4,7 +4,7 @@ use Rattle.dep_types.specs.declared.config.Config.{Config}
 use Rattle.dep_message.specs.Places.{Open}
 use Rattle.dep_hub.specs.Numbers.{Ascends}
 use Rattle.dep_exchange.specs.Records.{Connect}
-use Rattle.dep_hub.specs.Representing.{intake_of}
+use Rattle.dep_hub.specs.Representing.{IsKeptAs, intake_of}
 use Rattle.dep_hub.specs.declared.connections.Connection.{Connection}
 use Rattle.dep_hub.proofs.ConnectionLemmas.{absent_above, ascends_push, pushed_there}
 use Rattle.dep_hub.proofs.HubLemmas.{connects_moves, moves_adds, leaves_as_before}
@@ -33,21 +33,54 @@ invariant_of-self-2 g c =
     }
 
 -- there are too many, or no number is left
-pub returns-then-len-ge-MOST_CONNECTIONS-clause-memory : goal.returns-then-len-ge-MOST_CONNECTIONS-clause-memory
-returns-then-len-ge-MOST_CONNECTIONS-clause-memory g c = λ e. cc
-
-pub returns-then-len-ge-MOST_CONNECTIONS-clause-rests : goal.returns-then-len-ge-MOST_CONNECTIONS-clause-rests
-returns-then-len-ge-MOST_CONNECTIONS-clause-rests g c = leaves_as_before g.A.Archive.condition c.args.self.now _ refl (g.met.A.Archive.settled c.args.self.now.store)
+pub returns-then-len-ge-MOST_CONNECTIONS : goal.returns-then-len-ge-MOST_CONNECTIONS
+returns-then-len-ge-MOST_CONNECTIONS g c =
+    let old = c.args.self.now in
+    record {
+      adds = tt;
+      moves = tt;
+      same = λ w at. at;
+      holding = holds_same old.config.max_upload old.connections.items old.connections.items refl;
+      config = refl {a = c.args.self.now.config};
+      store = refl {a = c.args.self.now.store};
+      next = tt;
+      turn = refl {a = c.args.self.now.last_turn};
+      full = search rules;
+      room = tt;
+      memory = λ e. cc;
+      kept = refl {a = c.args.self.now.next};
+      fresh = tt;
+      there = tt;
+      behind = λ m. refl;
+      rests = leaves_as_before g.A.Archive.condition old _ refl (g.met.A.Archive.settled old.store);
+    }
 
 -- memory ran out
-pub returns-in-Err-clause-holding : goal.returns-in-Err-clause-holding
-returns-in-Err-clause-holding g c = holds_same c.args.self.now.config.max_upload c.args.self.now.connections.items c.push.new.self.items c.in-Err.ensures.items
-
-pub returns-in-Err-clause-rests : goal.returns-in-Err-clause-rests
-returns-in-Err-clause-rests g c = leaves_as_before g.A.Archive.condition c.args.self.now _ refl (g.met.A.Archive.settled c.args.self.now.store)
-
-pub returns-in-Err-clause-behind : goal.returns-in-Err-clause-behind
-returns-in-Err-clause-behind g c = λ m. ap (λ (cs : List Connection). behind_at cs m) c.in-Err.ensures.items
+pub returns-in-Err : goal.returns-in-Err
+returns-in-Err g c =
+    let old = c.args.self.now in
+    let items = c.in-Err.ensures.items in
+    record {
+      adds = tt;
+      moves = tt;
+      same = λ w at. record {
+        state = at.state;
+        kept = λ n. subst (λ (cs : List Connection). IsKeptAs old.config.max_upload (w.line n) (intake_of cs n)) (sym items) (at.kept n);
+      };
+      holding = holds_same old.config.max_upload old.connections.items c.push.new.self.items items;
+      config = refl {a = c.args.self.now.config};
+      store = refl {a = c.args.self.now.store};
+      next = tt;
+      turn = refl {a = c.args.self.now.last_turn};
+      full = λ e. cc;
+      room = tt;
+      memory = search rules;
+      kept = refl {a = c.args.self.now.next};
+      fresh = tt;
+      there = tt;
+      behind = λ m. ap (λ (cs : List Connection). behind_at cs m) items;
+      rests = leaves_as_before g.A.Archive.condition old _ refl (g.met.A.Archive.settled old.store);
+    }
 
 -- the connection is the last of them
 pub returns : goal.returns
@@ -70,10 +103,10 @@ returns g c =
       moves = moves;
       same = tt;
       holding = connects_line c.args.self.now.config.max_upload c.new-2.result c.args.self.now.next c.args.self.now.connections.items c.push.new.self.items c.args.self.now.ascends c.new-2.ensures items;
-      config = refl;
-      store = refl;
+      config = refl {a = c.args.self.now.config};
+      store = refl {a = c.args.self.now.store};
       next = (c.new-2.ensures, refl);
-      turn = refl;
+      turn = refl {a = c.args.self.now.last_turn};
       full = search rules;
       room = search rules;
       memory = λ e. cc;

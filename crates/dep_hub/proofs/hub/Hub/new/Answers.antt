@@ -1,4 +1,4 @@
-use Rattle.std.proofs.Common.{sym, ap, subst, List, [], arith}
+use Rattle.std.proofs.Common.{refl, sym, ap, subst, List, [], arith}
 use Rattle.dep_hub.specs.Numbers.{Ascends}
 use Rattle.dep_types.specs.declared.config.Config.{Config}
 use Rattle.dep_exchange.specs.Records.{Line, Run, begins, first_world}
@@ -7,32 +7,38 @@ use Rattle.dep_hub.specs.declared.connections.Connection.{Connection}
 use Rattle.dep_hub.specs.Claims.{is_any_pending, is_any_waiting}
 use Rattle.dep_hub.proofs.hub.Hub.new.Goals as goal
 
-pub returns-in-Err-Memory-clause-refused : goal.returns-in-Err-Memory-clause-refused
-returns-in-Err-Memory-clause-refused g c = λ e. cc
+pub returns-in-Err-Memory : goal.returns-in-Err-Memory
+returns-in-Err-Memory g c = record { represents = tt; again = tt; config = tt; kept = tt; checked = tt; refused = λ e. cc; next = tt; store = refl }
 
-pub returns-in_default-clause-refused : goal.returns-in_default-clause-refused
-returns-in_default-clause-refused g c = λ e. cc
+pub returns-in_default : goal.returns-in_default
+returns-in_default g c = record { represents = tt; again = tt; config = tt; kept = tt; checked = tt; refused = λ e. cc; next = tt; store = refl }
 
 -- no connection is there yet
-pub returns-clause-represents : goal.returns-clause-represents
-returns-clause-represents g c = λ first e. record {
-  world = first_world first;
-  run = begins;
-  at = record {
-    state = e;
-    kept = λ n. subst (λ (cs : List Connection). IsKeptAs c.in-Ok-new.config.max_upload ((first_world first).line n) (intake_of cs n)) (sym c.new-2.ensures.items) tt;
+pub returns : goal.returns
+returns g c = record {
+  represents = λ first e. record {
+    world = first_world first;
+    run = begins;
+    at = record {
+      state = e;
+      kept = λ n. subst (λ (cs : List Connection). IsKeptAs c.in-Ok-new.config.max_upload ((first_world first).line n) (intake_of cs n)) (sym c.new-2.ensures.items) tt;
+    };
   };
-}
-
-pub returns-clause-again : goal.returns-clause-again
-returns-clause-again g c = λ first records w run absent e. record {
-  world = w;
-  run = subst (λ (x : Config). Run x first records w) (sym c.in-Ok-new.ensures) run;
-  at = record {
-    state = e;
-    kept = λ n. subst (λ (cs : List Connection). IsKeptAs c.in-Ok-new.config.max_upload (w.line n) (intake_of cs n)) (sym c.new-2.ensures.items)
-        (subst (λ (l : Line). IsKeptAs c.in-Ok-new.config.max_upload l (intake_of [] n)) (sym (absent n)) tt);
+  again = λ first records w run absent e. record {
+    world = w;
+    run = subst (λ (x : Config). Run x first records w) (sym c.in-Ok-new.ensures) run;
+    at = record {
+      state = e;
+      kept = λ n. subst (λ (cs : List Connection). IsKeptAs c.in-Ok-new.config.max_upload (w.line n) (intake_of cs n)) (sym c.new-2.ensures.items)
+          (subst (λ (l : Line). IsKeptAs c.in-Ok-new.config.max_upload l (intake_of [] n)) (sym (absent n)) tt);
+    };
   };
+  config = c.in-Ok-new.ensures;
+  kept = refl;
+  checked = c.in-Ok.ensures.checked;
+  refused = tt;
+  next = refl;
+  store = tt;
 }
 
 pub invariant_of-result : goal.invariant_of-result

@@ -17,12 +17,12 @@ pub returns-in_default : goal.returns-in_default
 returns-in_default g c =
     let none = index_none c.args.connection c.args.self.now.connections.items (ap (place_of_number c.args.connection) (sym c.as_slice.ensures.value) ∙ (sym c.index_among.ensures.value ∙ c.in_default.is)) in
     record {
-      kept = record { config = refl; next = refl; store = refl };
+      kept = record { config = refl {a = c.args.self.now.config}; next = refl {a = c.args.self.now.next}; store = refl {a = c.args.self.now.store} };
       absent = λ _. refl;
       there = λ there. absurd (none_there _ none there);
       offers = record { absent = none; same = same_hub c.args.self.now _ _ _; sends_nothing = Keeps-refl (g.O.Outlet.taken c.args.out.now) };
       behind = λ m. refl;
-      turn = refl;
+      turn = refl {a = c.args.self.now.last_turn};
     }
 
 -- the piece was taken
@@ -30,7 +30,7 @@ pub returns-in-Ok : goal.returns-in-Ok
 returns-in-Ok g c =
     let index = ap (place_of_number c.args.connection) (sym c.as_slice.ensures.value) ∙ sym c.in-Some.ensures.value in
     record {
-      kept = record { config = refl; next = refl; store = refl };
+      kept = record { config = refl {a = c.args.self.now.config}; next = refl {a = c.args.self.now.next}; store = refl {a = c.args.self.now.store} };
       absent = λ none. absurd (not_absent c.args.connection c.in-Some.i c.args.self.now.connections.items c.index_mut-kept.result.now index c.index_mut-kept.ensures.value none);
       there = λ there. (
         open_there,
@@ -43,7 +43,7 @@ returns-in-Ok g c =
         same_failures = refl;
       };
       behind = behind_as_was c.args.connection c.in-Some.i c.args.self.now.connections.items c.index_mut-kept.result.now index c.index_mut-kept.ensures.value c.feed.new.self;
-      turn = refl;
+      turn = refl {a = c.args.self.now.last_turn};
     }
 
 -- memory ran out
@@ -52,7 +52,7 @@ returns-in-Err g c =
     let index = ap (place_of_number c.args.connection) (sym c.as_slice.ensures.value) ∙ sym c.in-Some.ensures.value in
     let e = c.in-Err.ensures.err in
     record {
-      kept = record { config = refl; next = refl; store = refl };
+      kept = record { config = refl {a = c.args.self.now.config}; next = refl {a = c.args.self.now.next}; store = refl {a = c.args.self.now.store} };
       absent = λ none. absurd (not_absent c.args.connection c.in-Some.i c.args.self.now.connections.items c.index_mut-kept.result.now index c.index_mut-kept.ensures.value none);
       there = λ there. (
         there_sent c.give_up.ensures.sent.2,
@@ -65,7 +65,7 @@ returns-in-Err g c =
           (g.O.Outlet.failures c.args.out.now) (g.O.Outlet.failures c.give_up.new.out) (g.A.Archive.condition c.args.self.now.store) c.give_up.result e.1 c.give_up.ensures.sent c.give_up.ensures.cause)
           (there_sent c.give_up.ensures.sent.2) (c.give_up.ensures.shut ∙ ap shut_reading e.0);
       behind = behind_as_was c.args.connection c.in-Some.i c.args.self.now.connections.items c.index_mut-kept.result.now index c.index_mut-kept.ensures.value c.give_up.new.intake;
-      turn = refl;
+      turn = refl {a = c.args.self.now.last_turn};
     }
 
 pub invariant_of-self : goal.invariant_of-self
