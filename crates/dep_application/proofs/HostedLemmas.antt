@@ -24,7 +24,6 @@ use Rattle.dep_host.specs.Actions.{HostAction}
 use Rattle.dep_host.specs.Runs.{RepresentsBehind}
 use Rattle.dep_host.specs.Runs as runs
 use Rattle.dep_program.specs.declared.outcome.Outcome.{Outcome}
-use Rattle.dep_slot.specs.declared.limits.Limits.{Limits as Bounds}
 use Rattle.dep_sockets.specs.Acceptors.{AcceptorState, EndsHub, WentOn}
 use Rattle.dep_application.specs.declared.host_log.StandardErrorLog.{StandardErrorLog}
 use Rattle.dep_configuration.specs.declared.configuration.ServerLimits.{ServerLimits}
@@ -61,13 +60,11 @@ module _ {S : Type 0} (g : Ghosts S) (clean : (h : Held S) → IsTrue (state g h
 
   module _ {R K P : Type 0} (unread : R → Option (List ℕ)) (taken : K → Option (List ℕ)) (held : P → Option (List ℕ)) (size : P → ℕ) (causes : Causes R K P) where
     -- what was done over the hub is done over its database
-    pub over_hub : {before after : AcceptorState R K P} {limits : ServerLimits} {bounds : Bounds} {log_before log_after : StandardErrorLog} (store : HostStore S) (back : Held S) (actions : List HostAction) (outcome : Outcome) → back ≡ store.archive.store
-        → bounds ≡ host_limits limits → EndsHub (reserved_condition g) (reserved_call_log g) unread taken held size causes unshown before after log_before log_after bounds opened store actions outcome → WentOn (reserved_condition g) opened store actions
+    pub over_hub : {before after : AcceptorState R K P} {limits : ServerLimits} {log_before log_after : StandardErrorLog} (store : HostStore S) (back : Held S) (actions : List HostAction) (outcome : Outcome) → back ≡ store.archive.store
+        → EndsHub (reserved_condition g) (reserved_call_log g) unread taken held size causes unshown before after log_before log_after (host_limits limits) opened store actions outcome → WentOn (reserved_condition g) opened store actions
         → HostsDatabase g unread taken held size causes before after limits config given back outcome
-    over_hub {before = before} {after = after} {limits = limits} {log_before = log_before} {log_after = log_after} store back actions outcome same bounded it went =
-        hosts opened store actions log_before log_after
-        (subst (λ (b : Bounds). EndsHub (reserved_condition g) (reserved_call_log g) unread taken held size causes unshown before after log_before log_after b opened store actions outcome) bounded it)
-        is same (subst (λ (h : Held S). IsHosted config (state g given) (state g h) actions) (sym same) (hosted_by store actions went))
+    over_hub {before = before} {after = after} {limits = limits} {log_before = log_before} {log_after = log_after} store back actions outcome same it went =
+        hosts opened store actions log_before log_after it is same (subst (λ (h : Held S). IsHosted config (state g given) (state g h) actions) (sym same) (hosted_by store actions went))
 
 -- nobody was served
 stays : (config : Config) (d : db.State) (s first : State) (records : List Record) → IsSettled d → StoreRepresents d s → Run config first records (first_world s) → LedBy config d first records []

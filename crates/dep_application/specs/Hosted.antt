@@ -5,6 +5,7 @@ use Rattle.sqlite.specs.State as db
 use Rattle.sqlite.specs.Held.{Held, state}
 use Rattle.sqlite_trees.specs.declared.store.Store.{Ghosts}
 use Rattle.dep_types.specs.State.{State, empty_state}
+use Rattle.dep_types.specs.Conditions.{Condition}
 use Rattle.dep_types.specs.Config.{IsChecked}
 use Rattle.dep_types.specs.declared.config.Config.{Config}
 use Rattle.dep_schema.specs.OpenTables.{HoldsNone}
@@ -15,6 +16,7 @@ use Rattle.dep_commands.specs.declared.reserved_archive.ReservedArchive.{Reserve
 use Rattle.dep_application.specs.declared.logged_reserve.LoggedReserve.{LoggedReserve}
 use Rattle.dep_commands.specs.Starting.{IsOpened, OpeningLeaves}
 use Rattle.dep_commands.specs.Reserved.{reserved_call_log, reserved_condition}
+use Rattle.dep_exchange.specs.ArchiveCalls.{CallLog}
 use Rattle.dep_exchange.specs.Records.{World, Record, Run, first_world, stopped}
 use Rattle.dep_hub.specs.declared.hub.Hub.{Hub}
 use Rattle.dep_slot.specs.Causes.{Causes}
@@ -25,7 +27,7 @@ use Rattle.dep_slot.specs.declared.limits.Limits.{Limits as Bounds}
 use Rattle.std.specs.Net.Socket.{socket_ip, socket_port}
 use Rattle.dep_configuration.specs.declared.configuration.Configuration.{Configuration}
 use Rattle.dep_configuration.specs.declared.configuration.ServerLimits.{ServerLimits}
-use Rattle.dep_sockets.specs.Acceptors.{AcceptorState, EndsHub}
+use Rattle.dep_sockets.specs.Acceptors.{AcceptorState, EndsHub, ServesHub}
 use Rattle.dep_sockets.specs.declared.acceptor.Entrance.{Entrance}
 use Rattle.dep_application.specs.declared.hosting.HostOptions.{HostOptions}
 use Rattle.dep_application.specs.declared.host_log.StandardErrorLog.{StandardErrorLog}
@@ -68,6 +70,18 @@ host_limits limits = record {
   address_connections = limits.address_connections;
   unfinished_bytes = limits.unfinished_bytes;
 }
+
+-- a hub over an archive with a reserve was served by an acceptor, and then the archive was handed back
+pub record ServesReserved {A Q R K P : Type 0} (condition : A → Condition) (call_log : A → CallLog)
+    (unread : R → Option (List ℕ)) (taken : K → Option (List ℕ)) (held : P → Option (List ℕ)) (size : P → ℕ)
+    (causes : Causes R K P) (before after : AcceptorState R K P) (limits : Bounds)
+    (hub : Hub (ReservedArchive A Q)) (back : A) (outcome : Outcome) : Type 0 where
+  pub left : ReservedArchive A Q
+  pub same : back ≡ left.archive
+  pub log_before : StandardErrorLog
+  pub log_after : StandardErrorLog
+  pub serves : ServesHub (λ its. condition its.archive) (λ its. call_log its.archive) unread taken held
+      size causes unshown before after log_before log_after limits hub left outcome
 
 module _ {S R K P : Type 0} (g : Ghosts S) (unread : R → Option (List ℕ)) (taken : K → Option (List ℕ))
     (held : P → Option (List ℕ)) (size : P → ℕ) (causes : Causes R K P) where

@@ -3,13 +3,15 @@ ghost use Rattle.std.specs.Prelude.{◌≡◌, false};
 ghost use Rattle.sqlite.specs.Held.{state};
 ghost use Rattle.dep_slot.specs.Causes.{causes_of};
 ghost use Rattle.dep_sockets.specs.Acceptors.{acceptor_state};
-ghost use Rattle.dep_application.specs.Hosted.{HostsDatabase, IsEntranceOf, AreOptionsOf, host_limits};
+ghost use Rattle.dep_application.specs.Hosted.{HostsDatabase, IsEntranceOf, AreOptionsOf, ServesReserved, host_limits};
 
 use crate::host_log::StandardErrorLog;
 use crate::logged_reserve::LoggedReserve;
-use dep_commands::{DatabaseWork, open_reserved_hub, work_on_file};
+use dep_commands::{DatabaseWork, Reserve, ReservedArchive, open_reserved_hub, work_on_file};
 use dep_configuration::{Configuration, ServerLimits};
+use dep_exchange::Archive;
 use dep_host::HostLog;
+use dep_hub::Hub;
 use dep_outbox::{Sink, Source, Spool};
 use dep_program::Outcome;
 use dep_sockets::{
@@ -19,6 +21,7 @@ use dep_types::{Config, Text};
 use sqlite::{Alter, Connection};
 use std::alloc::{AllocError, Global};
 use std::cell::Cell;
+use std::fmt::Display;
 use std::net::SocketAddr;
 use std::process;
 use std::time::Instant;
@@ -95,32 +98,42 @@ type HostSpool = FileSpool<'static, HostRuntime>;
 #[derive(Drop)]
 struct HostService<'a> {
     rt: &'a HostRuntime,
-    place: HostOptions,
+    place: &'a HostOptions,
     config: Config,
-    /// Whether it was done, before the database is closed.
-    is_done: &'a Cell<bool>,
+    /// How it ended, before the database is closed.
+    ended: &'a Cell<Outcome>,
 }
 
 /// Serves the clients of a configuration from the store in its file, which is made where it isn't there, with a reserve
 /// beside it. Then the log of the store is copied into its file. Unless all was done, a line on standard error says why.
 pub fn serve_store(rt: &HostRuntime, configuration: Configuration) -> Outcome {
-    let Ok(reserve_file) = reserve_beside(rt.alloc(), configuration.database.as_str()) else {
-        return fails(rt, "opened");
-    };
-    let begun = Instant::now(rt).ok();
-    let (place, database, config) = HostOptions::new(configuration, reserve_file, begun);
-    let is_done = Cell::new(false);
-    let service = HostService {
-        rt,
-        place,
-        config,
-        is_done: &is_done,
-    };
-    match work_on_file(rt, database.as_str(), service) {
-        Some(Outcome::StoreFault) if is_done.get() => fails(rt, "closed"),
+    let ended = Cell::new(Outcome::StoreFault);
+    match serve_file(rt, configuration, &ended) {
+        Some(Outcome::StoreFault) if matches!(ended.get(), Outcome::Done) => fails(rt, "closed"),
         Some(outcome) => outcome,
         None => fails(rt, "opened"),
     }
+}
+
+// Serves them, until the database is closed. Nothing is returned where it can't be opened.
+fn serve_file(
+    rt: &HostRuntime,
+    configuration: Configuration,
+    ended: &Cell<Outcome>,
+) -> Option<Outcome> {
+    let Ok(reserve_file) = reserve_beside(rt.alloc(), configuration.database.as_str()) else {
+        drop(configuration);
+        return None;
+    };
+    let begun = Instant::now(rt).ok();
+    let (place, database, config) = HostOptions::new(configuration, reserve_file, begun);
+    let service = HostService {
+        rt,
+        place: &place,
+        config,
+        ended,
+    };
+    work_on_file(rt, database.as_str(), service)
 }
 
 // The path of the reserve of the database in this file.
@@ -149,7 +162,7 @@ impl DatabaseWork for HostService<'_> {
         (causes_of source.halts sink.halts spool.failures)
         (acceptor_state acceptor.given acceptor.is_open acceptor.is_over acceptor.is_cut)
         (λ d. d.entrance) (λ d. d.spools.now.folder.now) (λ d. d.spools.now.most)
-        it.place it.config given back };
+        it.place.now it.config given back };
 
     // Makes the spools and the acceptor of the place, and serves whoever comes by it. Prints why that was broken off.
     fn work<S: Alter>(self, connection: Connection<S>) -> (Outcome, Connection<S>) {
@@ -157,20 +170,29 @@ impl DatabaseWork for HostService<'_> {
             rt,
             place,
             config,
-            is_done,
+            ended,
         } = self;
         let alloc = rt.alloc();
         let process = process::id(rt.process());
         let most = place.limits.spool_bytes;
         let spools = Spools::new(alloc, rt, place.spool_folder.as_str(), process, most);
         let mut acceptor = SocketAcceptor::new(alloc, rt, &spools, place.entrance());
-        let (outcome, connection) = host_database(rt, &place, config, connection, &mut acceptor);
-        if let Some(fault) = acceptor.fault() {
-            let _ = eprintln!(rt; "swordd_host: {fault}");
-        }
-        is_done.set(matches!(outcome, Outcome::Done));
+        let (outcome, connection) = host_database(rt, place, config, connection, &mut acceptor);
+        report_broken(rt, &acceptor);
+        ended.set(outcome);
         (outcome, connection)
     }
+}
+
+// Prints why serving was broken off, if it was.
+fn report_broken(rt: &HostRuntime, acceptor: &SocketAcceptor<'_, HostRuntime>) {
+    if let Some(fault) = acceptor.fault() {
+        report(rt, &fault);
+    }
+}
+
+fn report<F: Display>(rt: &HostRuntime, fault: &F) {
+    let _ = eprintln!(rt; "swordd_host: {fault}");
 }
 
 /// Opens a hub with the place's reserve over the database, and hands that back once no more come by the acceptor.
@@ -190,22 +212,46 @@ fn host_database<S: Alter, R: Source + Drop, K: Sink + Drop, P: Spool + Drop, E:
     let reserve = LoggedReserve::of(rt, place);
     match open_reserved_hub(rt.alloc(), config, connection, reserve) {
         Ok(hub) => {
-            let mut log = StandardErrorLog::new(rt, place);
-            let (outcome, archive) = serve_hub(
-                rt.alloc(),
-                hub,
-                host_limits(&place.limits),
-                acceptor,
-                &mut log,
-            );
-            log.rest();
-            (outcome, archive.into_archive().close())
+            let (outcome, archive) = serve_reserved(rt, place, hub, acceptor);
+            (outcome, archive.close())
         }
         Err((fault, connection)) => {
-            let _ = eprintln!(rt; "swordd_host: {fault}");
+            report(rt, &fault);
             (fault.outcome(), connection)
         }
     }
+}
+
+// The archive is any one here, since each call over a database is dear to prove.
+/// Serves a hub with a reserve until no more come by the acceptor, and hands its archive back.
+fn serve_reserved<
+    A: Archive,
+    Q: Reserve + Drop,
+    R: Source + Drop,
+    K: Sink + Drop,
+    P: Spool + Drop,
+    E: Acceptor<R, K, P>,
+>(
+    rt: &HostRuntime,
+    place: &HostOptions,
+    hub: Hub<ReservedArchive<A, Q>>,
+    acceptor: &mut E,
+) -> (Outcome, A)
+    ensures { let at = acceptor_state E.given E.is_open E.is_over E.is_cut in
+        ServesReserved A.condition A.call_log R.unread K.taken P.held P.size
+        (causes_of R.halts K.halts P.failures) (at acceptor.old) (at acceptor.new) (host_limits place.now.limits)
+        hub result.1 result.0 }
+{
+    let mut log = StandardErrorLog::new(rt, place);
+    let (outcome, archive) = serve_hub(
+        rt.alloc(),
+        hub,
+        host_limits(&place.limits),
+        acceptor,
+        &mut log,
+    );
+    log.rest();
+    (outcome, archive.into_archive())
 }
 
 fn host_limits(limits: &ServerLimits) -> dep_host::Limits

@@ -1,6 +1,6 @@
 -- What was told of objects, one after another.
 use Rattle.std.proofs.Common.{◌≡◌, ◌⊎◌, inl, inr, ℕ, zero, suc, ◌<◌, ◌≤◌, ◌+◌, ◌^◌, pos, List, [], ◌∷◌, ◌++◌, length, length-append, flat_map, Option, Some, None, refl, sym, ap, ap₂, subst, ◌∙◌, append_assoc, append-nil, arith}
-use Rattle.std.specs.Prelude.{⊤, find, filter, Result, Ok, Err, IsErr, IsErrAnd}
+use Rattle.std.specs.Prelude.{⊤, find, filter, Result, Ok, Err, IsErrAnd}
 use Rattle.std.proofs.lemmas.List.Elements.{All-nil, All-cons, All-append}
 use Rattle.std.proofs.lemmas.List.{map-append}
 use Rattle.std.proofs.lemmas.List.Sums.{sum_by_push}
@@ -135,14 +135,10 @@ module _ (t : Tables) (ordered : IsOrdered t.objects) (after n : ℕ) (written :
         front = inl front;
       }
 
-  begun : (more : List ℕ) → ((more ≡ []) ⊎ IsPartOfObject t n more) → HasAuditedSome t (written ++ more)
-  begun more (inl none) = subst (HasAuditedSome t) (sym (ap (λ l. written ++ l) none ∙ append-nil written)) (reported_so_far t after written tally reported)
-  begun more (inr part) = reported_part more part
-
-  pub objects_fail : (more : List ℕ) (fault : AuditFault) → ((more ≡ []) ⊎ IsPartOfObject t n more) → (result : Result (Option Tally) AuditFault)
+  pub objects_fail : (more : List ℕ) (fault : AuditFault) → IsPartOfObject t n more → (result : Result (Option Tally) AuditFault)
       → IsErrAnd result (λ x. x ≡ fault) → ReportsObjects t (written ++ more) result
   objects_fail more fault part (Ok x) err = absurd err
-  objects_fail more fault part (Err e) err = begun more part
+  objects_fail more fault part (Err e) err = reported_part more part
 
   -- a sum passes 64 bits
   pub sum_passes : (more : List ℕ) (its : Tally) → AuditsObject t n more its → (2 ^ 64 ≤ tally.checked + its.checked) ⊎ (2 ^ 64 ≤ tally.damaged + its.damaged)
@@ -185,17 +181,12 @@ pub reported_object : (t : Tables) (object : ℕ) (a : Audit) (files written : L
 reported_object t object a files written tally audited same is checked damaged =
     record { audit = a; audited = audited; lines = is ∙ ap (flat_map (damaged_line object)) same; checked = checked; damaged = damaged }
 
--- it could not be read
-pub none_reported : (t : Tables) (object : ℕ) (result : Result Tally AuditFault) → IsErr result → ReportsAudit t object [] result
-none_reported t object (Ok tally) err = absurd (cc err)
-none_reported t object (Err fault) err = inl refl
-
 pub object_fails : (t : Tables) (object : ℕ) (a : Audit) (files written : List ℕ) → IsAudited t object a → files ≡ a.damaged.items
     → IsPrefix written (flat_map (damaged_line object) files) → (fault : AuditFault) (result : Result Tally AuditFault) → IsErrAnd result (λ x. x ≡ fault)
     → ReportsAudit t object written result
 object_fails t object a files written audited same front fault (Ok x) err = absurd err
 object_fails t object a files written audited same front fault (Err e) err =
-    inr (record { audit = a; audited = audited; front = subst (λ (l : List ℕ). IsPrefix written (flat_map (damaged_line object) l)) same front })
+    record { audit = a; audited = audited; front = subst (λ (l : List ℕ). IsPrefix written (flat_map (damaged_line object) l)) same front }
 
 -- what the program says
 pub is_damaged : (damaged : ℕ) → 0 < damaged → Damaged ≡ outcome_of_audit damaged

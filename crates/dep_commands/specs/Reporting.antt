@@ -76,7 +76,7 @@ pub record IsPartOfObject (t : Tables) (object : ℕ) (written : List ℕ) : Typ
 
 abbrev pub ReportsAudit : Tables → (object : ℕ) → (written : List ℕ) → Result Tally AuditFault → Type 0
 ReportsAudit t object written (Ok tally) = AuditsObject t object written tally
-ReportsAudit t object written (Err fault) = (written ≡ []) ⊎ IsPartOfObject t object written
+ReportsAudit t object written (Err fault) = IsPartOfObject t object written
 
 -- the objects up to this number were audited, and their lines were written
 pub record AuditIsReported (t : Tables) (rows : List Row) (written : List ℕ) (tally : Tally) : Type 0 where

@@ -1,10 +1,16 @@
 //! The lines of an audit.
-ghost use Rattle.std.specs.Prelude.{◌≡◌, IfOk, flat_map, string_bytes};
+ghost use Rattle.std.specs.Prelude.{◌≡◌, ℕ, List, IfOk, flat_map, string_bytes};
+ghost use Rattle.std.specs.Io.KnownBytes.{Appends};
+ghost use Rattle.dep_tables.specs.Tables.{Tables};
+ghost use Rattle.dep_files.specs.Faults.{BlamesOutlet};
+ghost use Rattle.dep_files.specs.Fixity.{IsAudited};
 ghost use Rattle.dep_commands.specs.Audits.{damaged_line, count_line, two_numbers};
-ghost use Rattle.dep_commands.specs.Reporting.{WritesTo};
+ghost use Rattle.dep_commands.specs.Reporting.{ReportsAudit, WritesTo};
+ghost use Rattle.dep_commands.specs.declared.audit_fault.AuditFault.TheVariants.{Writer};
 
 use crate::audit_fault::AuditFault;
 use crate::tally::Tally;
+use dep_files::Audit;
 use dep_types::{Outlet, StoreFault};
 use itoa::Buffer;
 use std::alloc::Global;
@@ -18,8 +24,26 @@ struct NumbersLine<'a> {
     second: u64,
 }
 
+/// Writes a line for each of the damaged files that the audit of an object found, and returns how many it checked.
+pub(crate) fn write_audit<W: Outlet>(
+    alloc: Global,
+    object: u64,
+    audit: Audit,
+    out: &mut W,
+) -> Result<Tally, AuditFault>
+    ensures reports { (written : List ℕ) × Appends (W.taken out.old) (W.taken out.new) written
+        × ((t : Tables) → IsAudited t object audit → ReportsAudit t object written result) }
+    ensures blames { BlamesOutlet Writer (W.failures out.old) (W.failures out.new) result }
+{
+    write_damaged(alloc, object, audit.damaged.as_slice(), out)?;
+    Ok(Tally {
+        checked: audit.checked,
+        damaged: audit.damaged.len() as u64,
+    })
+}
+
 /// Writes a line for each of the damaged files of an object.
-pub(crate) fn write_damaged<W: Outlet>(
+fn write_damaged<W: Outlet>(
     alloc: Global,
     object: u64,
     files: &[u64],

@@ -1,15 +1,12 @@
 //! The audit of all files of a store.
-ghost use Rattle.std.specs.Prelude.{◌≡◌, OnOk};
-ghost use Rattle.sqlite.specs.State.{HasCleanDisk};
+ghost use Rattle.std.specs.Prelude.{◌≡◌};
 ghost use Rattle.sqlite.specs.Held.{state};
-ghost use Rattle.dep_tables.specs.Tables.{Tables};
-ghost use Rattle.dep_schema.specs.OpenTables.{StaysFile};
 ghost use Rattle.dep_commands.specs.Audits.{Audits};
 ghost use Rattle.dep_store.specs.Staying.{KeepsTables};
-ghost use Rattle.dep_commands.specs.Reporting.{ReportsAudit, ReportsObjects, WritesReport, WritesOf, BlamesTransfer, outcome_of_fault};
+ghost use Rattle.dep_commands.specs.Reporting.{ReportsObjects, WritesReport, WritesOf, BlamesTransfer, outcome_of_fault};
 
 use crate::audit_fault::AuditFault;
-use crate::lines::{write_count, write_damaged};
+use crate::lines::{write_audit, write_count};
 use crate::tally::Tally;
 use dep_files::Watch;
 use dep_program::Outcome;
@@ -72,7 +69,8 @@ fn report_objects<S: Alter, W: Outlet, P: Watch>(
         let Some(object) = store.next_object(after)? else {
             return Ok(Some(tally));
         };
-        let more = report_object(alloc, store, object, out, watch)?;
+        let audit = store.audit(object, watch)?;
+        let more = write_audit(alloc, object, audit, out)?;
         let Some(sum) = tally.plus(more) else {
             return Ok(None);
         };
@@ -80,25 +78,4 @@ fn report_objects<S: Alter, W: Outlet, P: Watch>(
         after = object;
     }
     Ok(None)
-}
-
-// Writes the lines of an object.
-fn report_object<S: Alter, W: Outlet, P: Watch>(
-    alloc: Global,
-    store: &mut Store<S>,
-    object: u64,
-    out: &mut W,
-    watch: &mut P,
-) -> Result<Tally, AuditFault>
-    ensures reports { WritesReport (state S.Store store.old) (state S.Store store.new)
-        W.taken W.failures out.old out.new result (λ t. ReportsAudit t object) }
-    ensures kept { HasCleanDisk (state S.Store store.new) → (t : Tables)
-        → StaysFile (state S.Store store.old) t → OnOk result (StaysFile (state S.Store store.new) t) }
-{
-    let audit = store.audit(object, watch)?;
-    write_damaged(alloc, object, audit.damaged.as_slice(), out)?;
-    Ok(Tally {
-        checked: audit.checked,
-        damaged: audit.damaged.len() as u64,
-    })
 }

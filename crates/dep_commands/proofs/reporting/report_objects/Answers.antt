@@ -25,71 +25,91 @@ returns-in_default g c =
       blames = blame_none _ _ _ c.objects.invariant.count (λ is. cc is);
     }
 
+-- an object that can't be read
+pub returns-in_err-audit : goal.returns-in_err-audit
+returns-in_err-audit g c =
+    let inv = c.objects.invariant in
+    let rows = c.in_ok-object.ensures.rows in
+    let does = c.in_err-audit.ensures.does in record {
+      writes = (
+        inv.writes.0,
+        inv.writes.1,
+        λ clean t at. begun_fails t inv.writes.0 (reported_so_far t c.objects.after inv.writes.0 c.objects.tally (inv.writes.2 (rows.honest (does.honest clean)) t at).0)
+            _ c.from_residual-in_err-audit.result c.from_residual-in_err-audit.ensures.1,
+      );
+      stays = keeps_then (state g.S.Store c.args.store.now) (state g.S.Store c.next_object.new.self) (state g.S.Store c.audit.new.self) (λ clean t at. (rows.ok clean t (inv.kept (rows.honest clean) t at)).1) (keeps_then (state g.S.Store c.args.store.now) (state g.S.Store c.objects.store) (state g.S.Store c.next_object.new.self) inv.kept inv.stays (reports_keeps (state g.S.Store c.objects.store) (state g.S.Store c.next_object.new.self) _ _ rows)) (reports_keeps (state g.S.Store c.next_object.new.self) (state g.S.Store c.audit.new.self) _ _ does);
+      blames = blame_passed {X = Tally} _ _ _ inv.count Store (blame_none _ _ (Err Store) refl (λ is. cc is)) c.from_residual-in_err-audit.result c.from_residual-in_err-audit.ensures.1;
+    }
+
 pub returns-in_err-more : goal.returns-in_err-more
 returns-in_err-more g c =
     let before = c.objects.invariant.writes in
-    let more = c.in_err-more.ensures.reports.writes in record {
+    let does = c.in_ok-audit.ensures.does in
+    let more = c.in_err-more.ensures.reports in record {
       writes = (
         before.0 ++ more.0,
-        Appends-trans (g.W.Outlet.taken c.args.out.now) (g.W.Outlet.taken c.objects.out) (g.W.Outlet.taken c.report_object.new.out) before.0 more.0 before.1 more.1,
-        λ clean t at. let mid = c.in_err-more.ensures.reports.stays.honest clean in
+        Appends-trans (g.W.Outlet.taken c.args.out.now) (g.W.Outlet.taken c.objects.out) (g.W.Outlet.taken c.write_audit.new.out) before.0 more.0 before.1 more.1,
+        λ clean t at. let mid = does.honest clean in
             let earlier = c.in_ok-object.ensures.rows.honest mid in
             let stood = c.objects.invariant.kept earlier t at in
             let after = c.in_ok-object.ensures.rows.ok mid t stood in
             objects_fail t (objects_rise stood) c.objects.after c.in-Some.object before.0 c.objects.tally (before.2 earlier t at).0
-            (subst (IsObjectAfter c.objects.after t) c.in-Some.is after.0) more.0 (c.in_err-more.field-0.0) (more.2 clean t after.1)
+            (subst (IsObjectAfter c.objects.after t) c.in-Some.is after.0) more.0 (c.in_err-more.field-0.0) (more.2 t (does.ok clean t after.1).0)
             c.from_residual-in_err-more.result c.from_residual-in_err-more.ensures.1,
       );
       stays =
           let inv = c.objects.invariant in
           let rows = c.in_ok-object.ensures.rows in
-          keeps_then (state g.S.Store c.args.store.now) (state g.S.Store c.next_object.new.self) (state g.S.Store c.report_object.new.store) (λ clean t at. (rows.ok clean t (inv.kept (rows.honest clean) t at)).1) (keeps_then (state g.S.Store c.args.store.now) (state g.S.Store c.objects.store) (state g.S.Store c.next_object.new.self) inv.kept inv.stays (reports_keeps (state g.S.Store c.objects.store) (state g.S.Store c.next_object.new.self) _ _ rows)) c.in_err-more.ensures.reports.stays;
-      blames = blame_passed _ _ _ c.objects.invariant.count c.in_err-more.field-0.0 c.in_err-more.ensures.reports.blames c.from_residual-in_err-more.result c.from_residual-in_err-more.ensures.1;
+          keeps_then (state g.S.Store c.args.store.now) (state g.S.Store c.next_object.new.self) (state g.S.Store c.audit.new.self) (λ clean t at. (rows.ok clean t (inv.kept (rows.honest clean) t at)).1) (keeps_then (state g.S.Store c.args.store.now) (state g.S.Store c.objects.store) (state g.S.Store c.next_object.new.self) inv.kept inv.stays (reports_keeps (state g.S.Store c.objects.store) (state g.S.Store c.next_object.new.self) _ _ rows)) (reports_keeps (state g.S.Store c.next_object.new.self) (state g.S.Store c.audit.new.self) _ _ does);
+      blames = blame_passed _ _ _ c.objects.invariant.count c.in_err-more.field-0.0 c.in_err-more.ensures.blames c.from_residual-in_err-more.result c.from_residual-in_err-more.ensures.1;
     }
 
 -- more files are checked than are counted
 pub returns-in_default-plus : goal.returns-in_default-plus
 returns-in_default-plus g c =
     let before = c.objects.invariant.writes in
-    let more = c.in_ok-more.ensures.reports.writes in record {
+    let does = c.in_ok-audit.ensures.does in
+    let more = c.in_ok-more.ensures.reports in record {
       writes = (
         before.0 ++ more.0,
-        Appends-trans (g.W.Outlet.taken c.args.out.now) (g.W.Outlet.taken c.objects.out) (g.W.Outlet.taken c.report_object.new.out) before.0 more.0 before.1 more.1,
-        λ clean t at. let mid = c.in_ok-more.ensures.reports.stays.honest clean in
+        Appends-trans (g.W.Outlet.taken c.args.out.now) (g.W.Outlet.taken c.objects.out) (g.W.Outlet.taken c.write_audit.new.out) before.0 more.0 before.1 more.1,
+        λ clean t at. let mid = does.honest clean in
             let earlier = c.in_ok-object.ensures.rows.honest mid in
             let stood = c.objects.invariant.kept earlier t at in
             let after = c.in_ok-object.ensures.rows.ok mid t stood in
             sum_passes t (objects_rise stood) c.objects.after c.in-Some.object before.0 c.objects.tally (before.2 earlier t at).0
-            (subst (IsObjectAfter c.objects.after t) c.in-Some.is after.0) more.0 c.in_ok-more.more (more.2 clean t after.1) (c.plus.ensures.none c.in_default-plus.is),
+            (subst (IsObjectAfter c.objects.after t) c.in-Some.is after.0) more.0 c.in_ok-more.more (more.2 t (does.ok clean t after.1).0) (c.plus.ensures.none c.in_default-plus.is),
       );
       stays =
           let inv = c.objects.invariant in
           let rows = c.in_ok-object.ensures.rows in
-          keeps_then (state g.S.Store c.args.store.now) (state g.S.Store c.next_object.new.self) (state g.S.Store c.report_object.new.store) (λ clean t at. (rows.ok clean t (inv.kept (rows.honest clean) t at)).1) (keeps_then (state g.S.Store c.args.store.now) (state g.S.Store c.objects.store) (state g.S.Store c.next_object.new.self) inv.kept inv.stays (reports_keeps (state g.S.Store c.objects.store) (state g.S.Store c.next_object.new.self) _ _ rows)) c.in_ok-more.ensures.reports.stays;
-      blames = blame_none _ _ _ (c.in_ok-more.ensures.reports.blames.kept ∙ c.objects.invariant.count) (λ is. cc is);
+          keeps_then (state g.S.Store c.args.store.now) (state g.S.Store c.next_object.new.self) (state g.S.Store c.audit.new.self) (λ clean t at. (rows.ok clean t (inv.kept (rows.honest clean) t at)).1) (keeps_then (state g.S.Store c.args.store.now) (state g.S.Store c.objects.store) (state g.S.Store c.next_object.new.self) inv.kept inv.stays (reports_keeps (state g.S.Store c.objects.store) (state g.S.Store c.next_object.new.self) _ _ rows)) (reports_keeps (state g.S.Store c.next_object.new.self) (state g.S.Store c.audit.new.self) _ _ does);
+      blames = blame_none _ _ _ (c.in_ok-more.ensures.blames.kept ∙ c.objects.invariant.count) (λ is. cc is);
     }
 
 pub objects-preserved : goal.objects-preserved
 objects-preserved g c =
     let inv = c.objects.invariant in
     let before = inv.writes in
-    let more = c.in_ok-more.ensures.reports.writes in record {
-      stays = keeps_then (state g.S.Store c.args.store.now) (state g.S.Store c.next_object.new.self) (state g.S.Store c.report_object.new.store) (λ clean t at. (c.in_ok-object.ensures.rows.ok clean t (inv.kept (c.in_ok-object.ensures.rows.honest clean) t at)).1) (keeps_then (state g.S.Store c.args.store.now) (state g.S.Store c.objects.store) (state g.S.Store c.next_object.new.self) inv.kept inv.stays (reports_keeps (state g.S.Store c.objects.store) (state g.S.Store c.next_object.new.self) _ _ c.in_ok-object.ensures.rows)) c.in_ok-more.ensures.reports.stays;
-      kept = λ clean t at. let mid = c.in_ok-more.ensures.reports.stays.honest clean in
-          c.in_ok-more.ensures.kept clean t (c.in_ok-object.ensures.rows.ok mid t (inv.kept (c.in_ok-object.ensures.rows.honest mid) t at)).1;
+    let rows = c.in_ok-object.ensures.rows in
+    let does = c.in_ok-audit.ensures.does in
+    let more = c.in_ok-more.ensures.reports in record {
+      stays = keeps_then (state g.S.Store c.args.store.now) (state g.S.Store c.next_object.new.self) (state g.S.Store c.audit.new.self) (λ clean t at. (rows.ok clean t (inv.kept (rows.honest clean) t at)).1) (keeps_then (state g.S.Store c.args.store.now) (state g.S.Store c.objects.store) (state g.S.Store c.next_object.new.self) inv.kept inv.stays (reports_keeps (state g.S.Store c.objects.store) (state g.S.Store c.next_object.new.self) _ _ rows)) (reports_keeps (state g.S.Store c.next_object.new.self) (state g.S.Store c.audit.new.self) _ _ does);
+      kept = λ clean t at. let mid = does.honest clean in
+          (does.ok clean t (rows.ok mid t (inv.kept (rows.honest mid) t at)).1).1;
       writes = (
         before.0 ++ more.0,
-        Appends-trans (g.W.Outlet.taken c.args.out.now) (g.W.Outlet.taken c.objects.out) (g.W.Outlet.taken c.report_object.new.out) before.0 more.0 before.1 more.1,
-        λ clean t at. let mid = c.in_ok-more.ensures.reports.stays.honest clean in
-            let earlier = c.in_ok-object.ensures.rows.honest mid in
+        Appends-trans (g.W.Outlet.taken c.args.out.now) (g.W.Outlet.taken c.objects.out) (g.W.Outlet.taken c.write_audit.new.out) before.0 more.0 before.1 more.1,
+        λ clean t at. let mid = does.honest clean in
+            let earlier = rows.honest mid in
             let stood = inv.kept earlier t at in
-            let after = c.in_ok-object.ensures.rows.ok mid t stood in
+            let after = rows.ok mid t stood in
             let reported = before.2 earlier t at in
             reported_more t (objects_rise stood) c.objects.after c.in-Some.object before.0 c.objects.tally reported.0
-            (subst (IsObjectAfter c.objects.after t) c.in-Some.is after.0) more.0 c.in_ok-more.more c.in-Some-plus.sum c.objects.counter (more.2 clean t after.1)
+            (subst (IsObjectAfter c.objects.after t) c.in-Some.is after.0) more.0 c.in_ok-more.more c.in-Some-plus.sum c.objects.counter (more.2 t (does.ok clean t after.1).0)
             (rw c.in-Some-plus.is at c.plus.ensures.checked) (rw c.in-Some-plus.is at c.plus.ensures.damaged) reported.1,
       );
-      count = c.in_ok-more.ensures.reports.blames.kept ∙ inv.count;
+      count = c.in_ok-more.ensures.blames.kept ∙ inv.count;
     }
 
 pub objects-init : goal.objects-init
