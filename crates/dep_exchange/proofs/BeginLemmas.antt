@@ -1,5 +1,5 @@
 -- What begins to be sent is the content that its step names.
-use Rattle.std.proofs.Common.{◌≡◌, Option, Some, None, sym, subst}
+use Rattle.std.proofs.Common.{◌≡◌, Option, Some, None, subst}
 use Rattle.std.specs.Prelude.{IfSome}
 use Rattle.dep_answers.specs.Performing.{IsReady, file_id}
 use Rattle.dep_answers.specs.Steps.{Stepped}

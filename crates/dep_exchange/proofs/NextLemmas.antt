@@ -1,19 +1,23 @@
 -- What answering the next item comes to, and how an arrival goes on with it.
-use Rattle.std.proofs.Common.{◌≡◌, ◌≢◌, ◌⊎◌, inl, inr, ℕ, Bool, true, false, List, [], Option, None, refl, sym, ap, subst, ◌∙◌}
+use Rattle.std.proofs.Common.{◌≡◌, ◌≢◌, ◌⊎◌, inl, inr, ℕ, Bool, true, false, List, [], Option, None, Result, Ok, Err, refl, sym, ap, subst, ◌∙◌}
 use Rattle.std.proofs.lemmas.List.{append-nil}
+use Rattle.std.specs.Prelude.{MatchResult}
 use Rattle.std.specs.Io.KnownBytes.{Appends}
+use Rattle.std.specs.declared.alloc.AllocError.{AllocError}
 use Rattle.dep_types.specs.declared.config.Config.{Config}
 use Rattle.dep_types.specs.declared.outlet.Outlet.{Ghosts}
 use Rattle.dep_types.specs.Conditions.{Condition}
 use Rattle.dep_types.specs.Writing.{HasRisen}
 use Rattle.dep_message.specs.Places.{Place, Open, Shut, Reading, IsOpen, HasBytes, shut_reading}
-use Rattle.dep_message.specs.Stream.{Item, FirstAt, Waits}
-use Rattle.dep_message.specs.Giving.{Takes}
+use Rattle.dep_message.specs.Stream.{Item, Continue, Fault, Request, Waits}
+use Rattle.dep_message.specs.Giving.{GivesStep, HasFirstHead, Takes}
+use Rattle.dep_message.specs.declared.intake.Step.{Step}
+use Rattle.dep_message.specs.declared.intake.Step.TheVariants.{Continue100, Message, Refused, NeedMore, Dead}
 use Rattle.dep_exchange.specs.Machine.{state_after, answer_at_place, SendsUpTo, out_of_memory}
-use Rattle.dep_exchange.specs.Sending.{Outside, Passes, outside, outside_of}
+use Rattle.dep_exchange.specs.Sending.{Outside, Passes, SendsOver, outside, outside_of}
 use Rattle.dep_exchange.specs.Owing.{Owing}
-use Rattle.dep_exchange.specs.Serving.{KeepsIntake, Arrival, Answers, IsDeadIfShut, ServedSoFar, ServesOver, answer_after}
-use Rattle.dep_exchange.specs.Nexts.{Stays, Rests, RunsOut, IsLast, IsDead, Ends, GoesOn, IsWaiting, AnswersNext, TakesNext, arrived_after, ended_as, next_behind, reading_behind}
+use Rattle.dep_exchange.specs.Serving.{BeginsFirst, KeepsIntake, Arrival, Answers, IsDeadIfShut, ServedSoFar, ServesOver, answer_after}
+use Rattle.dep_exchange.specs.Nexts.{Stays, Rests, RunsOut, IsLast, IsDead, Ends, GoesOn, IsWaiting, AnswersItem, AnswersLack, AnswersNext, AnswersStep, BeginsStep, EndsAsAsked, TakesNext, arrived_after, next_behind, reading_behind}
 use Rattle.dep_exchange.specs.Shut.{EndsFixed, waits, has_ended}
 use Rattle.dep_exchange.specs.declared.rest.Rest.{Rest}
 use Rattle.dep_exchange.specs.declared.arrived.Arrived.{Arrived}
@@ -26,14 +30,18 @@ use Rattle.dep_exchange.specs.declared.sending.Answered.TheVariants.{Sent, GaveU
 use Rattle.dep_exchange.proofs.Leaving.{Settles}
 use Rattle.dep_exchange.proofs.OwingLemmas.{said_now}
 use Rattle.dep_exchange.proofs.SendingLemmas.{passes_none, passes_both, passes_at}
-use Rattle.dep_exchange.proofs.ShutLemmas.{leaves_same, leaves_both, ends_sent, there_sent}
-use Rattle.dep_exchange.proofs.ServingLemmas.{served_more, serves_waiting, serves_last, serves_gives_up, first_at, answer_open}
+use Rattle.dep_exchange.proofs.ShutLemmas.{leaves_same, leaves_both, sends_up_to, was_cut}
+use Rattle.dep_exchange.proofs.ServingLemmas.{served_more, serves_waiting, serves_last, serves_gives_up, first_at, answer_open, continue_goes_on, request_shuts, request_goes_on, fault_shuts}
+
+-- what an intake gives, or why it gives nothing
+abbrev pub Given : (reading mid : Reading) → Result Step AllocError → Type 0
+Given reading mid step = MatchResult step (GivesStep reading mid) (λ _. (mid ≡ reading) × HasBytes reading.place × HasFirstHead reading.place)
 
 -- what an intake keeps it keeps over two stretches
 pub keeps_on : (old mid new : Reading) → KeepsIntake old mid → KeepsIntake mid new → KeepsIntake old new
 keeps_on old mid new h k = record { limit = k.limit ∙ h.limit; dead = λ dead. k.dead (h.dead dead) }
 
-pub closed_more : next.Closed ≢ More
+closed_more : next.Closed ≢ More
 closed_more e = cc
 
 cut_more : next.Cut ≢ More
@@ -48,14 +56,13 @@ closed_there e = cc
 cut_there : Cut ≢ NoSuch
 cut_there e = cc
 
-pub waiting_more : next.Waiting ≢ More
+waiting_more : next.Waiting ≢ More
 waiting_more e = cc
 
-pub never_more : (ended : Arrived) (n : Next) → n ≡ ended_as ended → n ≢ More
-never_more StaysOpen n q e = closed_more (sym q ∙ e)
-never_more Closed n q e = closed_more (sym q ∙ e)
-never_more Cut n q e = cut_more (sym q ∙ e)
-never_more NoSuch n q e = closed_more (sym q ∙ e)
+never_more : (how : Answered) → next_behind how true ≢ More
+never_more Sent e = closed_more e
+never_more GaveUp e = closed_more e
+never_more CutShort e = cut_more e
 
 -- what is not shut is open
 is_there : (at : Place) → (at ≡ Shut → ⊥) → IsOpen at
@@ -84,61 +91,116 @@ runs_out place taken takes failures after store answer has a cause = record {
   cause = cause;
 }
 
-module _ (config : Config) (reading : Reading) (moment : ℕ) (old new : Outside) (at : Place) (shut : at ≡ Shut) where
-  ends_by : (how : Answered) → IsLast config reading moment old new (answer_after how) → AnswersNext config reading moment old new at (ended_as (answer_after how))
-  ends_by Sent v = (shut, inl v)
-  ends_by GaveUp v = (shut, inl v)
-  ends_by CutShort v = (shut, inl v)
+-- what an intake gave was answered
+module _ (config : Config) (reading mid : Reading) (moment : ℕ) (old new : Outside) where
+  abbrev Taken : Next → Type 0
+  Taken n = TakesNext config reading (reading_behind mid n) moment old new n
 
-  -- an item was the last
-  ends_last : (item : Item) (next : Place) (how : Answered) → FirstAt reading.limit reading.place item next → (how ≡ Sent → next ≡ Shut)
-      → Answers config old new item moment how → (ended : Arrived) → ended ≡ answer_after how → (n : Next) → n ≡ ended_as ended
-      → AnswersNext config reading moment old new at n
-  ends_last item next how f e a ended r n q =
-      subst (λ x. AnswersNext config reading moment old new at x) (sym (q ∙ ap ended_as r))
-      (ends_by how (record { item = item; next = next; how = how; first = f; closes = e; answers = a; answer_is = refl }))
+  -- an item: another follows, or it was the last
+  module _ (item : Item) (taken : Takes reading mid item) where
+    ends_by : (how : Answered) → IsLast config reading moment old new (answer_after how) → AnswersNext config reading moment old new Shut (next_behind how true)
+    ends_by Sent v = (refl, inl v)
+    ends_by GaveUp v = (refl, inl v)
+    ends_by CutShort v = (refl, inl v)
+
+    ends_behind : (how : Answered) → (how ≡ Sent → mid.place ≡ Shut) → Answers config old new item moment how
+        → TakesNext config reading (shut_reading mid) moment old new (next_behind how true)
+    ends_behind how closes a = record {
+      answers = ends_by how (record { item = item; next = mid.place; how = how; first = taken.first; closes = closes; answers = a; answer_is = refl });
+      keeps = record { limit = taken.limit; dead = λ dead. ends_dead mid (shut_reading mid) refl };
+      less = λ m. absurd (never_more how m);
+    }
+
+    behind : (how : Answered) (is_last : Bool) → (is_last ≡ true → mid.place ≡ Shut) → (is_last ≡ false → mid.place ≡ Shut → ⊥)
+        → Answers config old new item moment how → Taken (next_behind how is_last)
+    behind Sent false closes goes a = record {
+      answers = record { item = item; first = taken.first; is_open = is_there mid.place (goes refl); answers = a };
+      keeps = record { limit = taken.limit; dead = λ dead shut. absurd (goes refl shut) };
+      less = λ m. taken.less;
+    }
+    behind Sent true closes goes a = ends_behind Sent (λ sent. closes refl) a
+    behind GaveUp is_last closes goes a = ends_behind GaveUp (λ sent. cc) a
+    behind CutShort is_last closes goes a = ends_behind CutShort (λ sent. cc) a
+
+    item_taken : (is_last : Bool) → (is_last ≡ true → mid.place ≡ Shut) → (is_last ≡ false → mid.place ≡ Shut → ⊥)
+        → (n : Next) → AnswersItem config item moment old new is_last n → Taken n
+    item_taken is_last closes goes n x = subst Taken (sym x.is) (behind x.how is_last closes goes x.answers)
 
   -- memory ran out
-  pub ends_out : (ended : Arrived) → RunsOut reading.place old new ended → (n : Next) → n ≡ ended_as ended → AnswersNext config reading moment old new at n
-  ends_out StaysOpen o n q = absurd (ends_sent out_of_memory o.sent o.sends)
-  ends_out Closed o n q = subst (λ x. AnswersNext config reading moment old new at x) (sym q) (shut, inr (inl o))
-  ends_out Cut o n q = subst (λ x. AnswersNext config reading moment old new at x) (sym q) (shut, inr (inl o))
-  ends_out NoSuch o n q = absurd (there_sent o.sends refl)
+  lack_by : (how : Answered) → RunsOut reading.place old new (answer_after how) → AnswersNext config reading moment old new Shut (next_behind how true)
+  lack_by Sent o = (refl, inr (inl o))
+  lack_by GaveUp o = (refl, inr (inl o))
+  lack_by CutShort o = (refl, inr (inl o))
 
--- an item was answered: another follows, or it was the last
-module _ (config : Config) (reading mid : Reading) (moment : ℕ) (old new : Outside) (item : Item) (taken : Takes reading mid item) where
-  ends_behind : (how : Answered) → (how ≡ Sent → mid.place ≡ Shut) → Answers config old new item moment how → (ended : Arrived) → ended ≡ answer_after how
-      → TakesNext config reading (shut_reading mid) moment old new (ended_as ended)
-  ends_behind how closes a ended e = record {
-    answers = ends_last config reading moment old new Shut refl item mid.place how taken.first closes a ended e (ended_as ended) refl;
-    keeps = record { limit = taken.limit; dead = λ dead. ends_dead mid (shut_reading mid) refl };
-    less = λ m. absurd (never_more ended (ended_as ended) refl m);
+  ends_out : (how : Answered) → mid ≡ reading → RunsOut reading.place old new (answer_after how) → TakesNext config reading (shut_reading mid) moment old new (next_behind how true)
+  ends_out how same o = record {
+    answers = lack_by how o;
+    keeps = record { limit = ap (λ (r : Reading). r.limit) same; dead = λ dead. ends_dead mid (shut_reading mid) refl };
+    less = λ m. absurd (never_more how m);
   }
 
-  behind : (how : Answered) (is_last : Bool) → (is_last ≡ true → mid.place ≡ Shut) → (is_last ≡ false → mid.place ≡ Shut → ⊥)
-      → Answers config old new item moment how → TakesNext config reading (reading_behind mid how is_last) moment old new (next_behind how is_last)
-  behind Sent false closes goes a = record {
-    answers = record { item = item; first = taken.first; is_open = is_there mid.place (goes refl); answers = a };
-    keeps = record { limit = taken.limit; dead = λ dead shut. absurd (goes refl shut) };
-    less = λ m. taken.less;
-  }
-  behind Sent true closes goes a = ends_behind Sent (λ sent. closes refl) a Closed refl
-  behind GaveUp is_last closes goes a = ends_behind GaveUp (λ sent. cc) a Closed refl
-  behind CutShort is_last closes goes a = ends_behind CutShort (λ sent. cc) a Cut refl
+  lack_taken : (how : Answered) → mid ≡ reading → RunsOut reading.place old new (answer_after how) → Taken (next_behind how true)
+  lack_taken Sent same o = ends_out Sent same o
+  lack_taken GaveUp same o = ends_out GaveUp same o
+  lack_taken CutShort same o = ends_out CutShort same o
 
-  pub takes_next : (how : Answered) (is_last : Bool) → (is_last ≡ true → mid.place ≡ Shut) → (is_last ≡ false → mid.place ≡ Shut → ⊥)
-      → Answers config old new item moment how → (now : Reading) → now ≡ reading_behind mid how is_last → (n : Next) → n ≡ next_behind how is_last
-      → TakesNext config reading now moment old new n
-  takes_next how is_last closes goes a now represents n e =
-      subst (λ (r : Reading). TakesNext config reading r moment old new n) (sym represents)
-      (subst (λ (x : Next). TakesNext config reading (reading_behind mid how is_last) moment old new x) (sym e)
-      (behind how is_last closes goes a))
+  by_step : (step : Result Step AllocError) → Given reading mid step → (n : Next) → AnswersStep config moment old new step n → Taken n
+  by_step (Ok Continue100) h n x = item_taken Continue h false (λ e. cc) (λ _. continue_goes_on _ _ _ h.first) n x
+  by_step (Ok (Message m is_last)) h n x =
+      item_taken (Request m) h.0 is_last (λ e. request_shuts _ _ _ m (sym h.1 ∙ e) h.0.first) (λ e. request_goes_on _ _ _ m (sym h.1 ∙ e) h.0.first) n x
+  by_step (Ok (Refused refusal head_only)) h n x = item_taken (Fault refusal head_only) h true (λ _. fault_shuts _ _ _ _ _ h.first) (λ e. cc) n x
+  by_step (Ok NeedMore) h n x = subst Taken (sym x.1) (record {
+    answers = record { same = ap (λ (r : Reading). r.place) h.0; waits = h.1; lives = h.2; rests = x.0 };
+    keeps = record { limit = ap (λ (r : Reading). r.limit) h.0; dead = λ dead. subst IsDeadIfShut (sym h.0) dead };
+    less = λ m. absurd (waiting_more m);
+  })
+  by_step (Ok Dead) h n x = subst Taken (sym x.1) (record {
+    answers = (refl, inr (inr (record { shut = h.1; rests = x.0; answer_is = refl })));
+    keeps = record { limit = ap (λ (r : Reading). r.limit) h.0; dead = λ dead. ends_dead mid (shut_reading mid) refl };
+    less = λ m. absurd (closed_more m);
+  })
+  by_step (Err lack) h n x = subst Taken (sym x.is)
+      (lack_taken x.how h.0 (record { sent = x.sent; some = h.1; stays = x.stays; sends = x.sends; cause = λ e. x.cause (was_cut x.how e) }))
 
--- nothing was read any more
-pub dead_ends : (config : Config) (reading : Reading) (moment : ℕ) (old : Outside) (now : Reading) → now ≡ reading → reading.place ≡ Shut
-    → AnswersNext config reading moment old old now.place next.Closed
-dead_ends config reading moment old now same shut =
-    (ap (λ (r : Reading). r.place) same ∙ shut, inr (inr (record { shut = shut; rests = rests_same old; answer_is = refl })))
+  pub takes_next : (step : Result Step AllocError) → Given reading mid step → (n : Next) → AnswersStep config moment old new step n
+      → (now : Reading) → now ≡ reading_behind mid n → TakesNext config reading now moment old new n
+  takes_next step h n x now e = subst (λ (r : Reading). TakesNext config reading r moment old new n) (sym e) (by_step step h n x)
+
+-- what is still to be sent is what it asks for
+pub begins_first : (config : Config) (reading mid : Reading) (moment : ℕ) (old new : Condition) (step : Result Step AllocError) → Given reading mid step
+    → (r : Rest) → BeginsStep config moment old new step r → BeginsFirst config reading moment old new r
+begins_first config reading mid moment old new (Ok Continue100) h r b = absurd b
+begins_first config reading mid moment old new (Ok (Message m is_last)) h r b = (Request m, mid.place, h.0.first, b)
+begins_first config reading mid moment old new (Ok (Refused refusal head_only)) h r b = (Fault refusal head_only, mid.place, h.first, b)
+begins_first config reading mid moment old new (Ok NeedMore) h r b = absurd b
+begins_first config reading mid moment old new (Ok Dead) h r b = absurd b
+begins_first config reading mid moment old new (Err lack) h r b = absurd b
+
+pub ends_as_asked : (reading mid : Reading) (step : Result Step AllocError) → Given reading mid step → EndsAsAsked step
+ends_as_asked reading mid (Ok Continue100) h = tt
+ends_as_asked reading mid (Ok (Message m is_last)) h = h.1
+ends_as_asked reading mid (Ok (Refused refusal head_only)) h = tt
+ends_as_asked reading mid (Ok NeedMore) h = tt
+ends_as_asked reading mid (Ok Dead) h = tt
+ends_as_asked reading mid (Err lack) h = tt
+
+-- a connection has ended behind its last answer
+pub arrived_last : (how : Answered) → arrived_after (next_behind how true) ≡ answer_after how
+arrived_last Sent = refl
+arrived_last GaveUp = refl
+arrived_last CutShort = refl
+
+-- the fixed reply for lack of memory, over a store that nothing was asked of
+pub answers_lack : (taken takes : Option (List ℕ)) (failures after : ℕ) (store : Condition) (how : Answered) → SendsOver taken takes failures after out_of_memory how
+    → (n : Next) → n ≡ next_behind how true → AnswersLack (outside taken failures store) (outside takes after store) n
+answers_lack taken takes failures after store how a n e = record {
+  how = how;
+  sent = a.0;
+  stays = record { passes = passes_at taken takes failures after store a.0 a.1; state = λ s h. h; leaves = leaves_same store };
+  sends = sends_up_to out_of_memory a.0 how a.2;
+  cause = a.3;
+  is = e;
+}
 
 -- nothing more was sent
 served_stays : {config : Config} {came : Arrival} {old mid new : Outside} {at : Place} → ServedSoFar config came old mid at → Rests mid new

@@ -1,7 +1,7 @@
 -- How the serving of an arrival goes on, and how it ends.
-use Rattle.std.proofs.Common.{◌≡◌, ◌≢◌, ◌⊎◌, inl, inr, ℕ, Bool, true, false, if◌then◌else◌, List, [], ◌∷◌, ◌++◌, IsTrue, refl, sym, ap, subst, ◌∙◌, append_assoc, Option, Err}
+use Rattle.std.proofs.Common.{◌≡◌, ◌≢◌, ◌⊎◌, inl, ℕ, Bool, true, false, if◌then◌else◌, List, [], ◌∷◌, ◌++◌, IsTrue, refl, sym, ap, subst, ◌∙◌, append_assoc, Option, Ok, Err}
 use Rattle.std.proofs.lemmas.List.{append-nil}
-use Rattle.dep_types.specs.State.{State, tick}
+use Rattle.dep_types.specs.State.{State}
 use Rattle.dep_types.specs.declared.config.Config.{Config}
 use Rattle.dep_types.specs.Writing.{IsProperPrefix, HasRisen}
 use Rattle.dep_types.specs.declared.refusal.Refusal.{Refusal}
@@ -12,11 +12,12 @@ use Rattle.dep_message.specs.Stream.{Item, Fault, Continue, Request, FirstAt, Wa
 use Rattle.dep_message.specs.declared.message.Message.{Message}
 use Rattle.dep_message.proofs.Reading.{reads_one}
 use Rattle.dep_answers.specs.Steps.{sent_by}
-use Rattle.dep_types.specs.Conditions.{Condition, Represents, HasCleanDisk, Leaves}
-use Rattle.dep_exchange.specs.Machine.{starting_state, step, replies, state_after, continue_line, Fails, Serves, given_up, cut_short, serves_all, step_fails, gives_up, answer_at_place}
-use Rattle.dep_exchange.specs.Archives.{FailsIfShut, Ticks}
+use Rattle.dep_answers.specs.declared.performed.Performed.{Performed}
+use Rattle.dep_types.specs.Conditions.{Condition, Represents, HasCleanDisk}
+use Rattle.dep_exchange.specs.Machine.{step, replies, state_after, continue_line, Fails, Serves, given_up, cut_short, serves_all, step_fails, gives_up, answer_at_place}
+use Rattle.dep_exchange.specs.Making.{GivesUp, IsStepped, MakesItem}
 use Rattle.dep_exchange.specs.Causes.{IsCutInContent}
-use Rattle.dep_exchange.specs.Sending.{IsReplySent, SendsOver, SendsReply, Outside, Passes, SendsStep, fault_reply}
+use Rattle.dep_exchange.specs.Sending.{IsReplySent, SendsOver, SendsReply, SendsReady, Outside, Passes, SendsStep, fault_reply, outside}
 use Rattle.dep_exchange.specs.Serving.{Arrival, IsDeadIfShut, FailsFrom, IsAnsweredBy, IsFixedSent, IsAnsweredShut, IsStill, ReadsWith, Answers, ServedSoFar, ServesFrom, ServesOver, answer_after}
 use Rattle.dep_exchange.specs.Nexts.{RunsOut}
 use Rattle.dep_exchange.specs.Shut.{LeavesNoMore, IfShut, EndsFixed, has_ended}
@@ -26,7 +27,7 @@ use Rattle.dep_exchange.specs.declared.arrived.Arrived.{Arrived}
 use Rattle.dep_exchange.specs.declared.arrived.Arrived.TheVariants.{Open as StaysOpen, Closed, Cut}
 use Rattle.dep_exchange.specs.declared.sending.Answered.{Answered}
 use Rattle.dep_exchange.specs.declared.sending.Answered.TheVariants.{Sent, GaveUp, CutShort}
-use Rattle.dep_exchange.proofs.Leaving.{Settles, leaves_wider, stays_as}
+use Rattle.dep_exchange.proofs.Leaving.{Settles, stays_as}
 use Rattle.dep_exchange.proofs.SendingLemmas.{passes_none, passes_both, passes_at}
 
 -- what is sent for one item more
@@ -104,13 +105,6 @@ served_more {config} {came} {old} {mid} {new} {at} {next} item v f a =
           still_more config v.items item came.moment v.sent a.sent both.0 both.1.0;
     }
 
--- what a failed step may leave
-pub record GivesUp (config : Config) (s : State) (item : Item) (moment : ℕ) (new : Condition) : Type 0 where
-  pub left : State
-  pub is_left : (left ≡ s) ⊎ (left ≡ starting_state config s item moment)
-  pub represents : IsTrue new.is_open → Represents new left
-  pub stop : Leaves new (λ found. (found ≡ s) ⊎ ((found ≡ starting_state config s item moment) ⊎ (found ≡ (step config s item moment).state)))
-
 -- a fixed reply in place of the step's
 module _ (config : Config) (old new : Outside) (item : Item) (moment : ℕ) (fault : StoreFault)
     (honest : HasCleanDisk new.store → HasCleanDisk old.store) (clean : IsTrue new.store.is_open → IsTrue old.store.is_open)
@@ -127,7 +121,7 @@ module _ (config : Config) (old new : Outside) (item : Item) (moment : ℕ) (fau
     cause = λ e. inl (x.3 (was_cut how e));
   }
 
-  pub answers_fixed : (answer : Answered) → SendsOver old.taken new.taken old.failures new.failures (fault_reply fault) answer
+  answers_fixed : (answer : Answered) → SendsOver old.taken new.taken old.failures new.failures (fault_reply fault) answer
       → Answers config old new item moment answer
   answers_fixed Sent x = absurd x.2
   answers_fixed GaveUp x = record {
@@ -142,22 +136,6 @@ module _ (config : Config) (old new : Outside) (item : Item) (moment : ℕ) (fau
     steps = fails_given CutShort x;
     shut = λ disk none. (asks x.0 CutShort (fault_reply fault, is_fixed fault, x.2), shut disk none);
   }
-
--- the clock couldn't go on, with which the item's step begins
-pub answers_unticked : (config : Config) (old new : Outside) (item : Item) (moment : ℕ) (fault : StoreFault)
-    → ((s : State) → starting_state config s item moment ≡ tick config s moment)
-    → ((sent : List ℕ) (answer : Answered) → IsFixedSent sent answer → IsAnsweredShut item sent answer)
-    → Ticks old.store new.store config moment (Err fault) → FailsIfShut {A = ℕ} old.store new.store (Err fault)
-    → (answer : Answered) → SendsOver old.taken new.taken old.failures new.failures (fault_reply fault) answer → Answers config old new item moment answer
-answers_unticked config old new item moment fault starts asks ticks fails answer sends =
-    answers_fixed config old new item moment fault ticks.honest ticks.was_open
-    (λ disk s represents. record {
-      left = s;
-      is_left = inl refl;
-      represents = λ is_open. ticks.err is_open s represents;
-      stop = leaves_wider new.store _ _ (λ found e. elim e [ inl same ↦ inl same | inr next ↦ inr (inl (next ∙ sym (starts s))) ]) (ticks.stop disk s represents tt);
-    })
-    asks fails.left answer sends
 
 -- an item's own reply, once its step was made
 pub answers_from : (config : Config) (s : State) (item : Item) (moment : ℕ) (sent : List ℕ) (old new : Outside) (answer : Answered)
@@ -190,6 +168,37 @@ made_from config s item moment sent old mid new CutShort e h = record {
   stop = h.stop;
   cause = λ c. subst (λ n. HasRisen n new.failures ⊎ IsCutInContent h.fails) e (h.cause c);
 }
+
+-- over an archive that was shut, it is sent the fixed reply
+sent_fixed : (item : Item) → IsStepped item → (sent : List ℕ) (answer : Answered) → IsFixedSent sent answer → IsAnsweredShut item sent answer
+sent_fixed (Fault r head_only) stepped sent answer h = h
+sent_fixed Continue stepped sent answer h = absurd stepped
+sent_fixed (Request m) stepped sent answer h = h
+
+-- the step of an item, and what was sent for it
+module _ (config : Config) (item : Item) (moment : ℕ) (taken : Option (List ℕ)) (failures : ℕ) (old mid : Condition) where
+  -- its reply
+  pub answers_ready : (new : Outside) (p : Performed) (answer : Answered) → MakesItem config item moment old mid (Ok p) → SendsReady (outside taken failures mid) new p answer
+      → Answers config (outside taken failures old) new item moment answer
+  answers_ready new p answer makes x = record {
+    sent = x.sent;
+    passes = record {
+      appends = x.passes.appends;
+      honest = λ h. makes.honest (x.passes.honest h);
+      clean = λ h. makes.was_open (x.passes.clean h);
+    };
+    steps = λ disk s represents.
+        made_from config s item moment x.sent (outside taken failures old) (outside taken failures mid) new answer refl
+        (answers_from config s item moment x.sent (outside taken failures mid) new answer
+        (x.sends disk (step config s item moment) (makes.makes (x.passes.honest disk) s represents)));
+    shut = λ disk none. absurd (makes.shut (x.passes.honest disk) none);
+  }
+
+  -- the fixed one
+  pub answers_failed : (takes : Option (List ℕ)) (after : ℕ) (fault : StoreFault) (answer : Answered) → MakesItem config item moment old mid (Err fault)
+      → SendsOver taken takes failures after (fault_reply fault) answer → Answers config (outside taken failures old) (outside takes after mid) item moment answer
+  answers_failed takes after fault answer makes sends =
+      answers_fixed config (outside taken failures old) (outside takes after mid) item moment fault makes.honest makes.was_open makes.makes (sent_fixed item makes.stepped) makes.shut answer sends
 
 -- a reply without a stored content, over a store that stays
 pub answers_reply : (config : Config) (held holds : Option (List ℕ)) (before after : ℕ) (store : Condition) (item : Item) (moment : ℕ) (answer : Answered) (reply : List ℕ)

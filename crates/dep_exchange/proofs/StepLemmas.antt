@@ -1,26 +1,32 @@
 -- What is ready is the reply of a step.
-use Rattle.std.proofs.Common.{◌≡◌, inl, ℕ, Bool, List, [], Option, Some, None, Result, Ok, Err, IfOk, OnErr, ap, subst, ◌∙◌}
+use Rattle.std.proofs.Common.{◌≡◌, inl, inr, ℕ, Bool, true, List, [], Option, Some, None, Result, Ok, Err, IfOk, OnErr, refl, sym, ap, subst, ◌∙◌}
 use Rattle.std.proofs.lemmas.Result.{IfOk-weaker}
-use Rattle.dep_types.specs.State.{State}
+use Rattle.dep_types.specs.State.{State, tick}
 use Rattle.dep_types.specs.declared.config.Config.{Config}
 use Rattle.dep_types.specs.declared.refusal.Refusal.{Refusal}
 use Rattle.dep_types.specs.declared.refusal.Refusal.TheVariants as why
+use Rattle.dep_types.specs.declared.store_fault.StoreFault.{StoreFault}
 use Rattle.dep_types.specs.declared.target.Target.{Target}
+use Rattle.dep_fields.specs.Fit.{AreFit}
+use Rattle.dep_fields.specs.declared.fields.SwordFields.{SwordFields}
+use Rattle.dep_fields.proofs.FitFields.{fields_are_fit}
 use Rattle.dep_head.specs.Head.{HeadParts}
 use Rattle.dep_message.specs.Heads.{is_head_only, closes}
+use Rattle.dep_message.specs.Stream.{Item, Fault, Continue, Request}
 use Rattle.dep_message.specs.declared.message.Message.{Message}
 use Rattle.dep_router.specs.Targets.{target}
 use Rattle.dep_router.specs.declared.routed.Routed.{Routed}
 use Rattle.dep_router.specs.declared.routed.Routed.TheVariants.{To, NotFound, NotAllowed}
 use Rattle.dep_decisions.specs.declared.operation.Operation.{Operation}
 use Rattle.dep_answers.specs.Replies.{refused_answer}
-use Rattle.dep_answers.specs.Steps.{Stepped, refused_step, operation_step}
+use Rattle.dep_answers.specs.Steps.{refused_step, operation_step}
 use Rattle.dep_answers.specs.Performing.{IsReady, IsReply}
 use Rattle.dep_answers.specs.declared.performed.Delivery.{Delivery}
 use Rattle.dep_answers.specs.declared.performed.Performed.{Performed}
-use Rattle.dep_types.specs.Conditions.{Condition, Represents}
-use Rattle.dep_exchange.specs.Archives.{TriesTo, MakesStep, Reports, Always}
-use Rattle.dep_exchange.specs.Machine.{operation_of, routed_step}
+use Rattle.dep_types.specs.Conditions.{Condition, Represents, HasCleanDisk}
+use Rattle.dep_exchange.specs.Archives.{TriesTo, MakesStep, Reports, Ticks, FailsIfShut, Always}
+use Rattle.dep_exchange.specs.Machine.{operation_of, routed_step, message_step, starting_state, step}
+use Rattle.dep_exchange.specs.Making.{IsMade, IsStepped, MakesItem}
 use Rattle.dep_exchange.proofs.Leaving.{Settles, stays_as, leaves_wider}
 
 -- a refusal at a clock
@@ -80,6 +86,14 @@ reported_where old new reported knows next r it = record {
   stop = it.stop;
 }
 
+-- the request that a message is
+pub operation_made : {E : Type 0} (config : Config) (m : Message) (t : Target) (old new : Condition) (op : Operation) (r : Result Performed E) → op ≡ operation_of m t
+    → MakesStep old new (λ s. AreFit op.fields) (λ s. operation_step config s op) r → MakesStep old new Always (λ s. operation_step config s (operation_of m t)) r
+operation_made config m t old new op r same made =
+    let fit : AreFit op.fields = subst (λ (f : SwordFields). AreFit f) (ap (λ (o : Operation). o.fields) (sym same)) (fields_are_fit m.head.fields) in
+    subst (λ (x : Operation). MakesStep old new Always (λ s. operation_step config s x) r) same
+    (tries_always old new (λ s. AreFit op.fields) (λ s p. IsReady (operation_step config s op) p) (λ s. (operation_step config s op).state) r (λ s. fit) made)
+
 -- a message whose reply tells a clock
 module _ {E : Type 0} (config : Config) (m : Message) (old new : Condition) (clock : ℕ) (r : Result Performed E) where
   abbrev AnswersIt : Routed → Type 0
@@ -128,3 +142,81 @@ pub asked_same : (head left : HeadParts) (method path : List ℕ) → method ≡
     → left ≡ record { method = head.method; path = []; minor = head.minor; fields = head.fields } → path ≡ head.path
     → target method path ≡ target head.method head.path
 asked_same head left method path m rest p = λ i. target ((m ∙ ap (λ (h : HeadParts). h.method) rest) i) (p i)
+
+-- ---- the clock goes on, and then an item is stepped
+
+-- the state that a step begins with is the tick's
+starts : (config : Config) (item : Item) → IsStepped item → (s : State) (moment : ℕ) → starting_state config s item moment ≡ tick config s moment
+starts config (Fault r head_only) stepped s moment = refl
+starts config Continue stepped s moment = absurd stepped
+starts config (Request m) stepped s moment = refl
+
+-- the clock couldn't go on
+pub never_ticked : (config : Config) (item : Item) (moment : ℕ) (old new : Condition) (fault : StoreFault) → IsStepped item → Ticks old new config moment (Err fault)
+    → FailsIfShut {A = ℕ} old new (Err fault) → MakesItem config item moment old new (Err fault)
+never_ticked config item moment old new fault stepped ticks fails = record {
+  stepped = stepped;
+  makes = λ disk s at. record {
+    left = s;
+    is_left = inl refl;
+    represents = λ is_open. ticks.err is_open s at;
+    stop = leaves_wider new _ _ (λ found e. elim e [ inl same ↦ inl same | inr next ↦ inr (inl (next ∙ sym (starts config item stepped s moment))) ]) (ticks.stop disk s at tt);
+  };
+  honest = ticks.honest;
+  was_open = ticks.was_open;
+  shut = fails.left;
+}
+
+module _ (config : Config) (moment : ℕ) (old mid : Condition) (clock : ℕ) (ticks : Ticks {E = StoreFault} old mid config moment (Ok clock))
+    (fails : FailsIfShut {E = StoreFault} old mid (Ok clock)) where
+  -- a whole message
+  message_is : (m : Message) (new : Condition) (r : Result Performed StoreFault)
+      → TriesTo mid new Always (λ s p. clock ≡ s.clock → IsReady (message_step config s m) p) (λ s. (message_step config s m).state) r
+      → HasCleanDisk new → (s : State) → Represents old s → IsMade config s (Request m) moment new r
+  unfolding step
+  message_is m new (Ok p) did disk s at =
+      let t = ticks.ok (did.honest disk) s at tt in
+      let x = did.ok disk (tick config s moment) t.1 tt in
+      record { state = x.1; ready = x.0 t.0 }
+  message_is m new (Err fault) did disk s at =
+      let t = ticks.ok (did.honest disk) s at tt in record {
+        left = tick config s moment;
+        is_left = inr refl;
+        represents = λ is_open. did.err is_open (tick config s moment) t.1;
+        stop = leaves_wider new _ _ (λ found e. inr e) (did.stop disk (tick config s moment) t.1 tt);
+      }
+
+  pub message_made : (m : Message) (new : Condition) (r : Result Performed StoreFault)
+      → TriesTo mid new Always (λ s p. clock ≡ s.clock → IsReady (message_step config s m) p) (λ s. (message_step config s m).state) r
+      → MakesItem config (Request m) moment old new r
+  message_made m new r did = record {
+    stepped = tt;
+    makes = message_is m new r did;
+    honest = λ disk. ticks.honest (did.honest disk);
+    was_open = λ is_open. ticks.was_open (did.was_open is_open);
+    shut = λ disk none. absurd (none (fails.opened (did.honest disk)));
+  }
+
+  -- a fault of the stream
+  module _ (refusal : Refusal) (head_only : Bool) (settles : Settles mid) where
+    fault_is : (r : Result Performed StoreFault) → IfOk r (λ p. (s : State) → clock ≡ s.clock → IsReady (refused_step s refusal None head_only true) p)
+        → HasCleanDisk mid → (s : State) → Represents old s → IsMade config s (Fault refusal head_only) moment mid r
+    unfolding step
+    fault_is (Ok p) says disk s at = let t = ticks.ok disk s at tt in record { state = t.1; ready = says (tick config s moment) t.0 }
+    fault_is (Err fault) says disk s at =
+        let t = ticks.ok disk s at tt in record {
+          left = tick config s moment;
+          is_left = inr refl;
+          represents = λ is_open. t.1;
+          stop = leaves_wider mid _ _ (λ found e. inr (inl e)) (stays_as mid (tick config s moment) settles t.1);
+        }
+
+    pub fault_made : (r : Result Performed StoreFault) → IfOk r (λ p. (s : State) → clock ≡ s.clock → IsReady (refused_step s refusal None head_only true) p)
+        → MakesItem config (Fault refusal head_only) moment old mid r
+    fault_made r says = record {
+      stepped = tt;
+      makes = fault_is r says;
+      honest = ticks.honest;
+      was_open = ticks.was_open;
+      shut = λ disk none. absurd (none (fails.opened disk));
+    }

@@ -6,6 +6,7 @@ pub mod Sending
 pub mod Serving
 pub mod Nexts
 pub mod Performing
+pub mod Making
 pub mod Archives
 pub mod Shut
 pub mod ArchiveCalls

@@ -3,7 +3,6 @@ use Rattle.std.specs.Prelude.{◌≡◌, ◌⊎◌, ℕ, true, List, Some, IsTru
 use Rattle.dep_types.specs.State.{State}
 use Rattle.dep_types.specs.Writing.{HasRisen}
 use Rattle.dep_types.specs.declared.config.Config.{Config}
-use Rattle.dep_message.specs.Heads.{closes}
 use Rattle.dep_message.specs.Places.{Place, Shut, Reading, place_with}
 use Rattle.dep_message.specs.Stream.{FirstAt, Item, Fault, Continue, Request, ReadsItems}
 use Rattle.dep_types.specs.Conditions.{Condition, Represents, HasCleanDisk, Leaves}
@@ -17,7 +16,6 @@ use Rattle.dep_exchange.specs.declared.rest.Rest.{Rest}
 use Rattle.dep_exchange.specs.declared.arrived.Arrived.{Arrived}
 use Rattle.dep_exchange.specs.declared.arrived.Arrived.TheVariants.{Open as StaysOpen, Closed, Cut}
 use Rattle.dep_exchange.specs.declared.serving.Piece.{Piece}
-use Rattle.dep_exchange.specs.declared.step.WholeMessage.{WholeMessage}
 use Rattle.dep_exchange.specs.declared.sending.Answered.{Answered}
 use Rattle.dep_exchange.specs.declared.sending.Answered.TheVariants.{Sent, GaveUp, CutShort}
 
@@ -92,10 +90,6 @@ arrival_of reading piece moment = record { reading = reading; piece = piece; mom
 -- the same of a piece that comes at its moment
 abbrev pub arrival_with : Reading → Piece → Arrival
 arrival_with reading piece = arrival_of reading piece.bytes.now piece.moment
-
--- the connection is closed after the reply where the head asks for it
-abbrev pub EndsAsAsked : WholeMessage → Type 0
-EndsAsAsked item = item.is_last ≡ closes item.message.head
 
 -- an intake that reads nothing more is dead: behind a request that closes the connection it was shut
 abbrev pub IsDeadIfShut : Reading → Type 0

@@ -1,8 +1,12 @@
 //! Replies that are sent over an outlet.
-ghost use Rattle.std.specs.Prelude.{◌≡◌, None, Some, IfSome};
+ghost use Rattle.std.specs.Prelude.{◌≡◌, ℕ, None, Some, IfSome};
 ghost use Rattle.dep_types.specs.Writing.{HasRisen};
+ghost use Rattle.dep_types.specs.declared.config.Config.{Config};
+ghost use Rattle.dep_message.specs.Stream.{Item};
 ghost use Rattle.dep_exchange.specs.Sending.{SendsOver, SendsReady, SendsReply, outside_of, fault_reply};
+ghost use Rattle.dep_exchange.specs.Making.{MakesItem};
 ghost use Rattle.dep_exchange.specs.Owing.{Owing};
+ghost use Rattle.dep_exchange.specs.Serving.{Answers, BeginsSource};
 
 use crate::access_log::AccessLog;
 use crate::archive::Archive;
@@ -76,9 +80,36 @@ pub(crate) fn send<O: Outlet>(out: &mut O, reply: &[u8]) -> Answered
     }
 }
 
-/// Sends what is ready: its front as one write, and the content of a file behind it, now or later. It returns what is
-/// sent later.
-pub(crate) fn send_performed<A: Archive, O: Outlet, L: AccessLog>(
+/// Sends the reply to an item, or the fixed one for its fault. It returns what is sent later.
+pub(crate) fn send_step<A: Archive, O: Outlet, L: AccessLog>(
+    store: &mut A,
+    step: Result<Performed, StoreFault>,
+    contents: Contents,
+    out: &mut O,
+    log: &mut L,
+) -> (Answered, Option<Rest>)
+    ensures owing { (config : Config) (item : Item) (moment : ℕ) (before : A)
+        → MakesItem config item moment (A.condition before) (A.condition store.old) step
+        → Owing O.Outlet out.old out.new (A.condition store.new) result.1 (λ new.
+        Answers config (outside_of O.Outlet out.old (A.condition before)) new item moment result.0) }
+    ensures begins { (config : Config) (item : Item) (moment : ℕ) (before : A)
+        → MakesItem config item moment (A.condition before) (A.condition store.old) step
+        → IfSome result.1 (BeginsSource config item moment (A.condition before) (A.condition store.new)) }
+    ensures at_once { contents ≡ Contents.AtOnce → result.1 ≡ None }
+{
+    match step {
+        Ok(performed) => {
+            let answered = send_performed(store, &performed, contents, out, log);
+            drop(performed);
+            answered
+        }
+        Err(fault) => (send_fault(fault, out, log), None),
+    }
+}
+
+// Sends what is ready: its front as one write, and the content of a file behind it, now or later. It returns what is
+// sent later.
+fn send_performed<A: Archive, O: Outlet, L: AccessLog>(
     store: &mut A,
     performed: &Performed,
     contents: Contents,

@@ -1,10 +1,9 @@
 //! One arrival: the items that are complete now are answered in order.
 ghost use Rattle.std.specs.Prelude.{◌≡◌, ◌≢◌, None, IfSome};
-ghost use Rattle.dep_message.specs.Places.{shut_reading};
 ghost use Rattle.dep_exchange.specs.Sending.{outside_of};
-ghost use Rattle.dep_exchange.specs.Serving.{BeginsFirst, ServesOver, KeepsIntake, arrival_with, answer_after};
+ghost use Rattle.dep_exchange.specs.Serving.{BeginsFirst, ServesOver, KeepsIntake, arrival_with};
 ghost use Rattle.dep_exchange.specs.Owing.{Owing};
-ghost use Rattle.dep_exchange.specs.Nexts.{TakesNext, ReportsLackOfMemory, arrived_after, ended_as, next_behind, reading_behind};
+ghost use Rattle.dep_exchange.specs.Nexts.{AnswersStep, BeginsStep, EndsAsAsked, TakesNext, ReportsLackOfMemory, arrived_after, next_behind, reading_behind};
 
 use crate::access_log::{AccessLog, NoLog};
 use crate::archive::Archive;
@@ -12,9 +11,9 @@ use crate::arrived::Arrived;
 use crate::contents::Contents;
 use crate::next::Next;
 use crate::rest::Rest;
-use crate::sending::{Answered, send_fault};
+use crate::sending::{Answered, send_fault, send_step};
 use crate::site::{Context, Site};
-use crate::step::{StreamRefusal, WholeMessage, answer_continue, answer_fault, answer_message};
+use crate::step::{StreamRefusal, answer_continue, step_fault, step_message};
 use dep_message::{Intake, Step};
 use dep_moment::Moment;
 use dep_types::{Outlet, StoreFault};
@@ -90,8 +89,33 @@ pub fn take_next<A: Archive, O: Outlet, L: AccessLog>(
         intake.old context.now.moment (A.condition store.old) (A.condition store.new)) }
     ensures at_once { context.now.contents ≡ Contents.AtOnce → result.1 ≡ None }
 {
-    match intake.next() {
-        Err(AllocError) => (last(give_up(intake, out, log)), None),
+    let step = intake.next();
+    let (next, rest) = answer_step(context, store, step, out, log);
+    shut_behind(intake, next);
+    (next, rest)
+}
+
+// Answers what an intake gives. An `Err` of it is lack of memory, for which the fixed reply is sent.
+fn answer_step<A: Archive, O: Outlet, L: AccessLog>(
+    context: &Context<'_>,
+    store: &mut A,
+    step: Result<Step, AllocError>,
+    out: &mut O,
+    log: &mut L,
+) -> (Next, Option<Rest>)
+    requires { EndsAsAsked step }
+    ensures owing { Owing O.Outlet out.old out.new (A.condition store.new) result.1 (λ new.
+        AnswersStep context.now.site.now context.now.moment
+        (outside_of O.Outlet out.old (A.condition store.old)) new step result.0) }
+    ensures begins { IfSome result.1 (BeginsStep context.now.site.now
+        context.now.moment (A.condition store.old) (A.condition store.new) step) }
+    ensures at_once { context.now.contents ≡ Contents.AtOnce → result.1 ≡ None }
+{
+    match step {
+        Err(AllocError) => (
+            next_after(send_fault(StoreFault::Memory, out, log), true),
+            None,
+        ),
         Ok(Step::NeedMore) => (Next::Waiting, None),
         Ok(Step::Dead) => (Next::Closed, None),
         Ok(Step::Refused(refusal, is_head_only)) => {
@@ -99,39 +123,37 @@ pub fn take_next<A: Archive, O: Outlet, L: AccessLog>(
                 refusal,
                 is_head_only,
             };
-            let (answer, rest) = answer_fault(context, store, fault, out, log);
-            (next_after(intake, answer, true), rest)
+            let step = step_fault(context, store, fault);
+            let (answer, rest) = send_step(store, step, context.contents, out, log);
+            (next_after(answer, true), rest)
         }
-        Ok(Step::Continue100) => {
-            let answer = answer_continue(store, out);
-            (next_after(intake, answer, false), None)
-        }
+        Ok(Step::Continue100) => (next_after(answer_continue(store, out), false), None),
         Ok(Step::Message(message, is_last)) => {
-            let item = WholeMessage { message, is_last };
-            let (answer, rest) = answer_message(context, store, item, out, log);
-            (next_after(intake, answer, is_last), rest)
+            let step = step_message(context, store, message, is_last, log);
+            let (answer, rest) = send_step(store, step, context.contents, out, log);
+            (next_after(answer, is_last), rest)
         }
     }
 }
 
 // What comes after an item. Another follows where the whole reply was sent, and the item isn't the last.
-fn next_after(intake: &mut Intake, answer: Answered, is_last: bool) -> Next
-    ensures next { result ≡ next_behind answer is_last }
-    ensures read { intake.new ≡ reading_behind intake.old answer is_last }
+fn next_after(answer: Answered, is_last: bool) -> Next
+    ensures { result ≡ next_behind answer is_last }
 {
     match answer {
         Answered::Sent if !is_last => Next::More,
-        _ => last(end(intake, answer)),
+        Answered::CutShort => Next::Cut,
+        _ => Next::Closed,
     }
 }
 
-// How the end of a connection is returned.
-fn last(ended: Arrived) -> Next
-    ensures { result ≡ ended_as ended }
+// Where the connection ends, nothing is read any more.
+fn shut_behind(intake: &mut Intake, next: Next)
+    ensures { intake.new ≡ reading_behind intake.old next }
 {
-    match ended {
-        Arrived::Cut => Next::Cut,
-        _ => Next::Closed,
+    match next {
+        Next::Closed | Next::Cut => intake.shut(),
+        _ => {}
     }
 }
 
@@ -141,16 +163,6 @@ pub fn give_up<O: Outlet, L: AccessLog>(intake: &mut Intake, out: &mut O, log: &
         (O.failures out.old) (O.failures out.new) intake.old intake.new result }
 {
     let answer = send_fault(StoreFault::Memory, out, log);
-    end(intake, answer)
-}
-
-fn end(intake: &mut Intake, answer: Answered) -> Arrived
-    ensures answer { result ≡ answer_after answer }
-    ensures shut { intake.new ≡ shut_reading intake.old }
-{
     intake.shut();
-    match answer {
-        Answered::CutShort => Arrived::Cut,
-        _ => Arrived::Closed,
-    }
+    arrived(next_after(answer, true))
 }

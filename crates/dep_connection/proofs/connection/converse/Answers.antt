@@ -30,5 +30,8 @@ returns-in-Some g c = record {
   flushed = λ h. c.turn.ensures.flushed (c.loop-count.invariant.flushed h);
 }
 
-pub returns-clause-talks : goal.returns-clause-talks
-returns-clause-talks g c = talk_bound g.A.Archive.condition _ _ _ _ _ _ _ (omega arith) c.loop-count.invariant.reads c.loop-count.invariant.last c.loop-count.invariant.talk c.loop-count.invariant.out
+pub returns : goal.returns
+returns g c = record {
+  talks = talk_bound g.A.Archive.condition _ _ _ _ _ _ _ (omega arith) c.loop-count.invariant.reads c.loop-count.invariant.last c.loop-count.invariant.talk c.loop-count.invariant.out;
+  flushed = c.loop-count.invariant.flushed;
+}

@@ -38,19 +38,28 @@ returns g c =
     }
 
 -- no connection was opened
-pub returns-in_default-connect-clause-goes : goal.returns-in_default-connect-clause-goes
-returns-in_default-connect-clause-goes g c = record {
-  config = c.connect.ensures.config;
-  clean = λ is_open. subst (λ (x : _). IsTrue (g.A.Archive.condition x).is_open) c.connect.ensures.store is_open;
-  honest = λ honest. subst (λ (x : _). HasCleanDisk (g.A.Archive.condition x)) c.connect.ensures.store honest;
+pub returns-in_default-connect : goal.returns-in_default-connect
+returns-in_default-connect g c = record {
+  call = c.requires;
+  goes = record {
+    config = c.connect.ensures.config;
+    clean = λ is_open. subst (λ (x : _). IsTrue (g.A.Archive.condition x).is_open) c.connect.ensures.store is_open;
+    honest = λ honest. subst (λ (x : _). HasCleanDisk (g.A.Archive.condition x)) c.connect.ensures.store honest;
+  };
+  converses = unserved g.A.Archive.condition c.args.clock.now c.args.hub.now c.connect.new.self (wire g.R.Inlet c.args.reader.now (outflow g.W.Outlet g.W.Flush.held g.W.Flush.has_failed c.args.writer.now))
+      c.in_default-connect.ensures.same c.connect.ensures.store c.connect.ensures.rests (same_represents g.A.Archive.condition c.args.hub.now c.connect.new.self c.connect.ensures.config c.in_default-connect.ensures.same);
+  next = c.in_default-connect.ensures.kept;
+  flushed = λ h. h;
 }
 
-pub returns-in_default-connect-clause-converses : goal.returns-in_default-connect-clause-converses
-returns-in_default-connect-clause-converses g c = unserved g.A.Archive.condition c.args.clock.now c.args.hub.now c.connect.new.self (wire g.R.Inlet c.args.reader.now (outflow g.W.Outlet g.W.Flush.held g.W.Flush.has_failed c.args.writer.now))
-    c.in_default-connect.ensures.same c.connect.ensures.store c.connect.ensures.rests (same_represents g.A.Archive.condition c.args.hub.now c.connect.new.self c.connect.ensures.config c.in_default-connect.ensures.same)
-
 -- there was no memory for its pieces
-pub returns-in_default-clause-converses : goal.returns-in_default-clause-converses
-returns-in_default-clause-converses g c = unserved g.A.Archive.condition c.args.clock.now c.args.hub.now c.args.hub.now (wire g.R.Inlet c.args.reader.now (outflow g.W.Outlet g.W.Flush.held g.W.Flush.has_failed c.args.writer.now))
-    (λ w at. at) refl (λ w at. stays_as (store_of g.A.Archive.condition c.args.hub.now) w.state (g.met.A.Archive.settled c.args.hub.now.store) at.state)
-    (λ first records h. h)
+pub returns-in_default : goal.returns-in_default
+returns-in_default g c = record {
+  call = c.requires;
+  goes = record { config = refl; clean = λ is_open. is_open; honest = λ honest. honest };
+  converses = unserved g.A.Archive.condition c.args.clock.now c.args.hub.now c.args.hub.now (wire g.R.Inlet c.args.reader.now (outflow g.W.Outlet g.W.Flush.held g.W.Flush.has_failed c.args.writer.now))
+      (λ w at. at) refl (λ w at. stays_as (store_of g.A.Archive.condition c.args.hub.now) w.state (g.met.A.Archive.settled c.args.hub.now.store) at.state)
+      (λ first records h. h);
+  next = refl;
+  flushed = λ h. h;
+}
