@@ -1,5 +1,5 @@
 -- Texts that are written piece after piece.
-use Rattle.std.proofs.Common.{◌≡◌, ℕ, ◌+◌, ◌<◌, List, [], ◌∷◌, ◌++◌, length, take, append_assoc, sym, ap, ◌∙◌, min, codes, decimal}
+use Rattle.std.proofs.Common.{◌≡◌, ℕ, ◌+◌, ◌<◌, List, [], ◌∷◌, ◌++◌, length, take, append_assoc, length-append, refl, sym, ap, ◌∙◌, min, codes, decimal}
 use Rattle.std.specs.Prelude.{get_or}
 use Rattle.std.proofs.lemmas.List.{take_more, flat_map_more}
 use Rattle.dep_moment.specs.Civil.{day_text}
@@ -12,6 +12,11 @@ pub one_byte_more : (path before text new : List ℕ) (i byte : ℕ) → i < len
 one_byte_more path before text new i byte within is so_far added =
     added ∙ (ap (λ (t : List ℕ). t ++ encoded_byte byte) so_far ∙ (flat_map_more encoded_byte before (take i path) byte
     ∙ ap (λ (xs : List ℕ). before ++ encoded_path xs) (sym (take_more path i 0 within ∙ ap (λ (b : ℕ). take i path ++ b ∷ []) is))))
+
+-- and how much longer the text is then
+pub one_byte_longer : (path : List ℕ) (i byte : ℕ) → i < length path → get_or path i 0 ≡ byte → length (encoded_path (take (i + 1) path)) ≡ length (encoded_path (take i path)) + length (encoded_byte byte)
+one_byte_longer path i byte within is =
+    sym (ap length (one_byte_more path [] (encoded_path (take i path)) _ i byte within is refl refl)) ∙ length-append (encoded_path (take i path)) (encoded_byte byte)
 
 -- the text of `bag-info.txt`, joined of its pieces
 pub info_pieces : (changed octets count : ℕ) (day bytes files text : List ℕ)

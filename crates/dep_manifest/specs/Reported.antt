@@ -1,5 +1,5 @@
 -- The tag files of an object's bag, by a view of the object.
-use Rattle.std.specs.Prelude.{◌≡◌, ℕ, List, [], ◌∷◌, ◌++◌, length, map, sum_by, codes}
+use Rattle.std.specs.Prelude.{◌≡◌, ℕ, List, [], ◌∷◌, ◌++◌, length, map, sum_by, codes, Option, option_to_list}
 use Rattle.std.specs.List.{zip}
 use Rattle.dep_types.specs.BagPaths.{payload_path}
 use Rattle.dep_types.specs.declared.rows.FileRow.{FileRow}
@@ -24,6 +24,10 @@ row_checksum row value = record { path = row_path row; value = value }
 abbrev pub row_checksums : Algorithm → List FileRow → (sha512s : List (List ℕ)) → List Checksum
 row_checksums Sha256 rows values = map (λ row. row_checksum row row.sha256) rows
 row_checksums Sha512 rows values = map (λ e. row_checksum e.0 e.1) (zip rows values)
+
+-- the line of one of them, if there is a value
+abbrev pub row_line : Algorithm → FileRow → (sha512 : Option (List ℕ)) → List ℕ
+row_line a row value = manifest (row_checksums a (row ∷ []) (option_to_list value))
 
 -- how many bytes and files the payload has, as `bag-info.txt` says it
 abbrev pub reported_oxum : List FileRow → List ℕ

@@ -9,12 +9,12 @@ use std::slice;
 
 /// Adds the line of a file: its digest, of which these are the hexadecimal digits, two blanks, and its path
 /// (RFC 8493, section 2.1.3). It fails for lack of memory alone.
-pub(crate) fn add_line(text: &mut Vec<u8>, path: &[u8], digits: &[u8]) -> Result<(), AllocError>
+pub(crate) fn add_line(text: &mut Vec<u8>, path: &str, digits: &[u8]) -> Result<(), AllocError>
     ensures { OnOk result (Grows text.old text.new (line_of digits.now path.now)) }
 {
     text.extend_from_slice(digits)?;
     text.extend_from_slice(b"  ")?;
-    add_encoded(text, path)?;
+    add_encoded(text, path.as_bytes())?;
     text.extend_from_slice(b"\n")
 }
 

@@ -36,7 +36,7 @@ impl TagManifests {
         let mut hasher = Hasher::new();
         hasher.update(bytes.as_slice());
         let digests = hasher.finish();
-        let path = path.as_bytes();
+        drop(bytes);
         add_line(&mut self.sha256, path, &to_hex(&digests.sha256))?;
         add_line(&mut self.sha512, path, &to_hex512(&digests.sha512))
     }
