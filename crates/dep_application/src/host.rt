@@ -1,9 +1,10 @@
 //! What the words of `swordd_host` ask for.
 
-use crate::folders::check_folders;
 use crate::hosting::serve_store;
 use crate::start::{KIT, VERSION};
-use dep_configuration::{Configuration, ConfigurationFault, EXAMPLE, explain, print_configuration};
+use dep_configuration::{
+    Configuration, ConfigurationFault, EXAMPLE, check_folders, explain, print_configuration,
+};
 use dep_program::{HostCommand, Outcome, words};
 use std::fmt::Display;
 use std::{fs, io};

@@ -4,7 +4,6 @@
 
 mod called;
 mod commands;
-mod folders;
 mod held_lines;
 mod host;
 mod host_log;

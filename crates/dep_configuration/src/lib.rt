@@ -1,4 +1,5 @@
-//! The configuration of a server for many connections, read and printed, and the lines of its access log.
+//! The configuration of a server for many connections, read and printed, the folders that it names, and the lines of its
+//! access log.
 #![tactic(auto)]
 
 mod access_log;
@@ -7,6 +8,7 @@ mod configuration;
 mod example;
 mod fault;
 mod field;
+mod folders;
 pub mod laws;
 mod names;
 mod report;
@@ -20,4 +22,5 @@ pub use configuration::{Configuration, ServerLimits};
 pub use example::{EXAMPLE, explain};
 pub use fault::ConfigurationFault;
 pub use field::{Bounds, ConfigurationField, FIELDS, Wanted};
+pub use folders::{FolderFault, check_folders};
 pub use report::print_configuration;

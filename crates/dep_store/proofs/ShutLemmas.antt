@@ -17,7 +17,7 @@ use Rattle.sqlite.specs.Schema.{Schema}
 use Rattle.dep_schema.specs.States.{StoreRepresents}
 use Rattle.dep_schema.specs.Transactions.{IsBackAt, IsRestored}
 use Rattle.dep_schema.proofs.Transacting.{tables_back}
-use Rattle.dep_store.specs.Shut.{IsReported, StoreFailsToReport, StoreLeavesNoMore, StoreFailsIfShut, StaysOpen}
+use Rattle.dep_store.specs.Shut.{ReportsPrepared, StoreFailsToReport, StoreLeavesNoMore, StoreFailsIfShut, StaysOpen}
 use Rattle.sqlite.specs.Listing.{understood}
 use Rattle.sqlite_tied.specs.Compute.{everything}
 use Rattle.sqlite_resolve.specs.declared.compiled.Compiled.{Compiled}
@@ -117,14 +117,14 @@ fails_alone old new e (inl (none, unchanged)) = absurd (elim none [
 
 -- what it says of the store that a statement was to be prepared
 module _ (old new : db.State) (clean_now : IsTrue new.is_open → HasCleanDisk new) where
-  pub tells_open : (probed : Result ⊤ Error) (result : Result Bool StoreFault) → IsReported probed result → (HasCleanDisk new → OnOk probed (IsTrue new.is_open))
+  pub tells_open : (probed : Result ⊤ Error) (result : Result Bool StoreFault) → ReportsPrepared probed result → (HasCleanDisk new → OnOk probed (IsTrue new.is_open))
       → (HasCleanDisk new → IfErr probed (IsNotRun old new (codes "SELECT 1") [])) → IfOk result (ReportsOpen (shown_by new))
   tells_open (Ok prepared) result is opened cause = subst (λ (r : Result Bool StoreFault). IfOk r (ReportsOpen (shown_by new))) (sym is) opened
   tells_open (Err e) result (inl (closed, is)) opened cause = subst (λ (r : Result Bool StoreFault). IfOk r (ReportsOpen (shown_by new))) (sym is)
       (λ is_open. closed_if_shut old new _ e (cause (clean_now is_open)) closed is_open)
   tells_open (Err e) result (inr (other, is)) opened cause = subst (λ (r : Result Bool StoreFault). IfOk r (ReportsOpen (shown_by new))) (sym is) tt
 
-  pub tells_why : (probed : Result ⊤ Error) (result : Result Bool StoreFault) → IsReported probed result
+  pub tells_why : (probed : Result ⊤ Error) (result : Result Bool StoreFault) → ReportsPrepared probed result
       → (HasCleanDisk new → IfErr probed (IsNotRun old new (codes "SELECT 1") [])) → HasCleanDisk new → IfErr result (StoreFailsToReport old new)
   tells_why (Ok prepared) result is cause clean = subst (λ (r : Result Bool StoreFault). IfErr r (StoreFailsToReport old new)) (sym is) tt
   tells_why (Err e) result (inl (closed, is)) cause clean = subst (λ (r : Result Bool StoreFault). IfErr r (StoreFailsToReport old new)) (sym is) tt

@@ -53,8 +53,8 @@ StoreFailsToReport old new fault =
     ⊎ ((e : Error) × db.Fails old new ⊥ e × (e ≢ SqliteFailure Closed) × (fault ≡ fault_for e))
 
 -- a statement was prepared, so the store is open; or it was shut; or another error is why that isn't known
-abbrev pub IsReported : Result ⊤ Error → Result Bool StoreFault → Type 0
-IsReported (Ok prepared) result = result ≡ Ok true
-IsReported (Err error) result =
+abbrev pub ReportsPrepared : Result ⊤ Error → Result Bool StoreFault → Type 0
+ReportsPrepared (Ok prepared) result = result ≡ Ok true
+ReportsPrepared (Err error) result =
     ((error ≡ SqliteFailure Closed) × (result ≡ Ok false))
     ⊎ ((error ≢ SqliteFailure Closed) × (result ≡ Err (fault_for error)))

@@ -1,6 +1,6 @@
 //! What a store caches, and whether it is open, by a statement that was to be prepared.
 
-ghost use Rattle.dep_store.specs.Shut.{IsReported};
+ghost use Rattle.dep_store.specs.Shut.{ReportsPrepared};
 
 use crate::read_transaction::ReadTransaction;
 use dep_answers::StoredFile;
@@ -26,7 +26,7 @@ impl Known {
 
 /// What it means whether a statement was prepared: that the store is open, that it was shut, or why that isn't known.
 pub(crate) fn reported_by(probed: Result<(), Error>) -> Result<bool, StoreFault>
-    ensures { IsReported probed result }
+    ensures { ReportsPrepared probed result }
 {
     match probed {
         Ok(()) => Ok(true),

@@ -1,6 +1,7 @@
 //! The folders that a configuration names.
 
-use dep_configuration::{Configuration, ConfigurationField};
+use crate::configuration::Configuration;
+use crate::field::ConfigurationField;
 use std::error::Error;
 use std::{fmt, fs};
 
