@@ -1,5 +1,5 @@
 //! A spool in a file without a name.
-ghost use Rattle.std.specs.Prelude.{◌≡◌, ◌≤◌, ◌<◌, ◌+◌, ◌-◌, OnOk, OnErr, length, vec_len, true, false};
+ghost use Rattle.std.specs.Prelude.{◌≡◌, ◌≤◌, ◌<◌, ◌+◌, ◌-◌, OnOk, length, vec_len, true, false};
 ghost use Rattle.dep_sockets.specs.Totals.{HoldsTheSame};
 
 use crate::spools::Spools;

@@ -1,4 +1,4 @@
-use Rattle.std.proofs.Common.{List, None, [], length, ◌≡◌, ◌<◌, refl, sym, ap, subst, ◌∙◌}
+use Rattle.std.proofs.Common.{List, None, [], length, ◌<◌, refl, sym, ap, subst, ◌∙◌}
 use Rattle.std.proofs.KnownBytes.{Appends-nil, Keeps-refl}
 use Rattle.dep_hub.specs.Claims.{is_awaited_by}
 use Rattle.dep_hub.specs.Numbers.{place_of_number}
