@@ -31,20 +31,23 @@ impl fmt::Display for ConfigurationFault {
             ConfigurationFault::Malformed => f.write_str("the configuration is not JSON"),
             ConfigurationFault::NotObject => f.write_str("the configuration is not an object"),
             ConfigurationFault::Unknown(name) => {
-                write!(f, "{:?}: there is no field of this name", name.as_str())
+                write!(f, "{name:?}: there is no field of this name")
             }
-            ConfigurationFault::Repeated(name) => {
-                write!(f, "{}: the field is given twice", name.as_str())
-            }
-            ConfigurationFault::Missing(field) => {
-                write!(f, "{}: missing; {}", field.name(), field.wanted())
-            }
-            ConfigurationFault::Invalid(field) => {
-                write!(f, "{}: {}", field.name(), field.wanted())
-            }
+            ConfigurationFault::Repeated(name) => { write!(f, "{name}: the field is given twice") }
+            ConfigurationFault::Missing(field) => write_wanted(f, *field, ": missing; "),
+            ConfigurationFault::Invalid(field) => write_wanted(f, *field, ": "),
             ConfigurationFault::Memory => f.write_str("out of memory"),
         }
     }
+}
+
+// The name of a field, and what it has to be.
+fn write_wanted<W: fmt::Write>(
+    f: &mut fmt::Formatter<W>,
+    field: ConfigurationField,
+    between: &str,
+) -> fmt::Result {
+    write!(f, "{}{between}{}", field.name(), field.wanted())
 }
 
 impl fmt::Debug for ConfigurationFault {
