@@ -1,5 +1,5 @@
 -- What an export gave, against the bag of the state.
-use Rattle.std.proofs.Common.{◌≡◌, ℕ, List, [], ◌∷◌, ◌++◌, Some, None, Ok, Err, inr, refl, sym, ap, subst, ◌∙◌, append_assoc, codes}
+use Rattle.std.proofs.Common.{◌≡◌, ℕ, List, [], ◌∷◌, ◌++◌, Some, None, Ok, Err, inl, inr, refl, sym, ap, subst, ◌∙◌, append_assoc, codes}
 use Rattle.std.specs.Prelude.{Result, flat_map, map as each, option_and_then, option_map}
 use Rattle.std.specs.Result.{IsErrAnd}
 use Rattle.std.specs.List.{All}
@@ -11,17 +11,20 @@ use Rattle.dep_types.specs.State.{State, Object, File}
 use Rattle.dep_types.specs.Rows.{file_row, object_view}
 use Rattle.dep_types.specs.Sinks.{PathAndBytes, IsPrefix, folder_made, file_given}
 use Rattle.dep_types.specs.declared.rows.ObjectView.{ObjectView}
+use Rattle.dep_types.specs.declared.store_fault.StoreFault.{StoreFault}
+use Rattle.dep_types.specs.declared.store_fault.StoreFault.TheVariants as store
 use Rattle.dep_bag.specs.Bag.{payload, bag_files}
 use Rattle.dep_bag.specs.Parts.{reported_tag_files}
 use Rattle.dep_bag.specs.Source.{view_at}
-use Rattle.dep_bag.specs.Giving.{IsGivenAt, IsGivenOrPrefix, tag_transcript, AreFilesOf}
+use Rattle.dep_bag.specs.Giving.{AccountsForFailures, IsGivenAt, IsGivenOrPrefix, tag_transcript, AreFilesOf}
+use Rattle.dep_bag.specs.ExportFaults.{export_fault_for}
 use Rattle.dep_bag.specs.Exports.{bag_transcript, IsExported}
 use Rattle.dep_bag.specs.declared.export_fault.ExportFault.{ExportFault}
 use Rattle.dep_bag.specs.declared.export_fault.ExportFault.TheVariants.{NoSuchObject, Sink, Store, Memory}
 use Rattle.dep_bag.proofs.Files.{payload_entry}
 use Rattle.dep_bag.proofs.Keys.{entries-held}
 use Rattle.dep_bag.proofs.ReportedBag.{same_tag_files}
-use Rattle.dep_bag.proofs.GivenParts.{IsOurs, given_front}
+use Rattle.dep_bag.proofs.GivenParts.{IsOurs, cause_passed, given_front}
 
 same_view : (x y : ObjectView) → Some x ≡ Some y → x ≡ y
 same_view x y e = cc
@@ -104,3 +107,20 @@ all_exported {X} s n view v tags more (Err e) is gives =
       rest = f.1.rest;
       joined = reported_transcript s n view v ∙ (λ i. sym is i ++ f.1.joined i) ∙ sym (append_assoc tags more f.1.rest);
     }) refl
+
+-- a fault of the source before anything is given
+module _ {X : Type 0} (fault : StoreFault) (r : Result X ExportFault) (err : IsErrAnd r (λ x. x ≡ export_fault_for fault)) where
+  pub unseen_exported : (s : State) (n : ℕ) → IsExported s n [] r
+  unseen_exported s n = go r fault err
+    where
+      go : (r : Result X ExportFault) (fault : StoreFault) → IsErrAnd r (λ x. x ≡ export_fault_for fault) → IsExported s n [] r
+      go (Ok x) fault err = absurd err
+      go (Err e) store.Store err = subst (λ x. IsExported {X = X} s n [] (Err x)) (sym err) (inl refl)
+      go (Err e) store.Memory err = subst (λ x. IsExported {X = X} s n [] (Err x)) (sym err) (inl refl)
+
+  pub unseen_cause : (failures : ℕ) → AccountsForFailures r failures failures
+  unseen_cause failures = go fault refl
+    where
+      go : (is : StoreFault) → fault ≡ is → AccountsForFailures r failures failures
+      go store.Store is = cause_passed failures failures failures r Store refl refl (subst (λ f. IsErrAnd r (λ x. x ≡ export_fault_for f)) is err)
+      go store.Memory is = cause_passed failures failures failures r Memory refl refl (subst (λ f. IsErrAnd r (λ x. x ≡ export_fault_for f)) is err)

@@ -2,7 +2,7 @@
 use Rattle.std.proofs.Common.{◌≡◌, ◌≤◌, ◌<◌, ◌+◌, ◌∙◌, ◌||◌, Bool, true, false, cond, ℕ, List, [], ◌∷◌, ◌++◌, length, map, take, get_or, Some, None, refl, sym, ap, arith, append_assoc, codes, bytes_eq, is_some, Bor}
 use Rattle.std.specs.Prelude.{Option, option_map}
 use Rattle.std.specs.List.{list_any}
-use Rattle.std.proofs.lemmas.List.{get_or-map, length-map, take_more}
+use Rattle.std.proofs.lemmas.List.{get_or-map, length-map, map-append, take_more}
 use Rattle.std.proofs.lemmas.List.Folds.{list_any-append}
 use Rattle.dep_types.specs.BagPaths.{tag_paths}
 use Rattle.dep_types.specs.declared.rows.FileRow.{FileRow}
@@ -29,6 +29,16 @@ one_added texts n text old mid new below are is =
 
 pub all_added : (texts : List (Bor (List ℕ))) (n : ℕ) (old new : List (List ℕ)) → n ≤ 7 → 7 ≤ n → AreAdded texts n old new → new ≡ old ++ tag_paths
 all_added texts n old new within ended are = let is : n ≡ 7 = omega arith in are.added ∙ ap (λ k. old ++ take k tag_paths) is
+
+-- behind them the path of one more file was added
+pub payload_path_added : (rows : List FileRow) (i : ℕ) (row : FileRow) (before after : List (List ℕ)) → i < length rows → row ≡ get_or rows i row
+    → before ≡ tag_paths ++ map row_path (take i rows) → after ≡ before ++ row_path row ∷ [] → after ≡ tag_paths ++ map row_path (take (i + 1) rows)
+payload_path_added rows i row before after inside is so_far grown =
+    grown
+    ∙ ap (λ l. l ++ row_path row ∷ []) so_far
+    ∙ append_assoc tag_paths (map row_path (take i rows)) (row_path row ∷ [])
+    ∙ ap (λ (r : FileRow). tag_paths ++ (map row_path (take i rows) ++ row_path r ∷ [])) is
+    ∙ ap (λ l. tag_paths ++ l) (sym (map-append row_path (take i rows) (get_or rows i row ∷ [])) ∙ ap (map row_path) (sym (take_more rows i row inside)))
 
 tag_here : (b : Bool) (file : TagFile) (files : Option TagFile) (more : Bool) → is_some files ≡ more → is_some (cond b (Some file) files) ≡ (b || more)
 tag_here true file files more rest = refl

@@ -1,5 +1,5 @@
 -- From what a decision makes of the maps to what a request makes of the state.
-use Rattle.std.proofs.Common.{◌≡◌, ◌∙◌, ℕ, ◌+◌, ◌&&◌, true, List, Some, Option, IsTrue, Result, OnOk, nat_eq, sym, ap, subst, arith}
+use Rattle.std.proofs.Common.{◌≡◌, ◌∙◌, ℕ, ◌+◌, ◌&&◌, true, false, List, Some, Option, IsTrue, Result, OnOk, nat_eq, sym, ap, subst, arith}
 use Rattle.std.proofs.lemmas.Bool.Decides.{nat_tests}
 use Rattle.sqlite.specs.State as db
 use Rattle.std.specs.FinMap as finmap
@@ -18,6 +18,7 @@ use Rattle.dep_decisions.specs.Decisions.{decision, numbers_for}
 use Rattle.dep_decisions.specs.Effects.{at, effect, effect_of}
 use Rattle.dep_decisions.specs.declared.operation.Operation.{Operation}
 use Rattle.dep_decisions.specs.declared.decision.Decision.{Decision}
+use Rattle.dep_decisions.specs.declared.decision.Decision.TheVariants.{Show}
 use Rattle.dep_operations.specs.Views.{true_view}
 use Rattle.dep_operations.specs.declared.view.View.{View}
 use Rattle.dep_changes.specs.Reported.{IsAccepted, ReportsFor, ReportsNumbers}
@@ -88,6 +89,9 @@ none_taken next was taken e none =
     as_many : (n : ℕ) → n + 0 ≡ n
     as_many n = omega arith
 
+pub false_true : false ≡ true → ⊥
+false_true e = cc e
+
 pub equal_counters : (a b : Counters) → a ≡ b → (nat_eq a.object b.object && (nat_eq a.file b.file && (nat_eq a.upload b.upload && nat_eq a.change b.change))) ≡ true
 equal_counters a b same =
     subst (λ (x : Counters). (nat_eq a.object x.object && (nat_eq a.file x.file && (nat_eq a.upload x.upload && nat_eq a.change x.change))) ≡ true) same
@@ -102,6 +106,14 @@ equal_counters a b same =
 module _ {T L : Type 0} {lenders : T → L} {state : T → db.State} {old new : T} {r : Result (Unit {0}) StoreFault} (change : Change) {decision d : Decision} where
   pub carried_as : decision ≡ d → CarriesOut lenders state old new r change d → CarriesOut lenders state old new r change decision
   carried_as is made = subst (CarriesOut lenders state old new r change) (sym is) made
+
+abbrev pub IsShow : Decision → Type 0
+IsShow Show = Unit {0}
+IsShow _ = ⊥
+
+-- a decision of another form than Show is none
+pub as_shown : {decision d : Decision} → decision ≡ d → decision ≡ Show → IsShow d
+as_shown is show = subst IsShow (sym show ∙ is) tt
 
 -- what becomes of an object that is there
 pub at_object : (s : State) (uploads : Numbered Upload) (now : db.State) (r : Result (Unit {0}) StoreFault) (n : ℕ) (o : Object) (f : Object → Object) → finmap.get s.objects n ≡ Some o

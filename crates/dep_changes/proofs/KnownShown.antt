@@ -1,14 +1,13 @@
 -- What the state after a decision shows of what is known.
-use Rattle.std.proofs.Common.{◌≡◌, ℕ, Bool, true, ◌||◌, List, Option, Some, None, IfSome, option_and_then, refl, ap, subst, sym, ◌∙◌}
+use Rattle.std.proofs.Common.{◌≡◌, ℕ, Bool, true, ◌||◌, List, Option, Some, None, IfSome, option_and_then, Result, IfOk, refl, ap, subst, sym, ◌∙◌}
 use Rattle.std.specs.Prelude.{option_map}
 use Rattle.std.specs.Option.{option_map_or}
 use Rattle.dep_types.specs.Rows.{file_row, object_row}
 use Rattle.dep_types.specs.State.{State, File, Object, Texts}
 use Rattle.std.specs.FinMap as finmap
 use Rattle.dep_types.specs.Maps.{Numbered, ◌>>=◌}
-use Rattle.dep_types.specs.declared.rows.FileRow.{FileRow}
 use Rattle.dep_types.specs.declared.rows.ObjectRow.{ObjectRow}
-use Rattle.dep_types.specs.declared.rows.ObjectView.{ObjectView}
+use Rattle.dep_types.specs.declared.store_fault.StoreFault.{StoreFault}
 use Rattle.dep_row_maps.proofs.Lens.{get_here}
 use Rattle.dep_decisions.specs.Effects.{files_added, appended, at, changed, effect_of, file_from, filled, ingested_by, with_other_files, with_other_texts}
 use Rattle.dep_decisions.specs.declared.decision.Decision.{Decision}
@@ -27,17 +26,17 @@ use Rattle.dep_changes.specs.Reported.{IsAccepted, ReportsFor, ReportsNumbers, R
 use Rattle.dep_changes.proofs.Carried.{numbers_reported, reported as all_reported}
 
 -- what is known of a request that is accepted is known by the form of its decision
-pub known_of : (s : State) (view : View) (content : List ℕ) (decision d : Decision) → decision ≡ d → (known : Option Shown) → IsAccepted s view content decision
-    → (ReportsNumbers view s → ReportsFor view s content d → known ≡ known_shown s content d) → known ≡ known_shown s content decision
-known_of s view content decision d is known it by_form =
-    subst (λ (x : Decision). known ≡ known_shown s content x) (sym is)
+pub known_of : (s : State) (view : View) (content : List ℕ) (decision d : Decision) → decision ≡ d → (r : Result (Option Shown) StoreFault) → IsAccepted s view content decision
+    → (ReportsNumbers view s → ReportsFor view s content d → IfOk r (λ known. known ≡ known_shown s content d)) → IfOk r (λ known. known ≡ known_shown s content decision)
+known_of s view content decision d is r it by_form =
+    subst (λ (x : Decision). IfOk r (λ known. known ≡ known_shown s content x)) (sym is)
     (by_form (numbers_reported s view content decision it) (subst (ReportsFor view s content) is (all_reported s view content decision it)))
 
 -- a new object
-pub created_known : (s : State) (content : List ℕ) (d : Deposit) (ingests : Bool) (reported : ObjectView) → reported ≡ files_view s.next.object (filled s content d ingests)
-    → Some (shown.Files reported) ≡ known_shown s content (Create d ingests)
-created_known s content d ingests reported is =
-    ap (λ (v : ObjectView). Some (shown.Files v)) is
+pub created_known : (s : State) (content : List ℕ) (d : Deposit) (ingests : Bool) (known : Option Shown) → known ≡ Some (shown.Files (files_view s.next.object (filled s content d ingests)))
+    → known ≡ known_shown s content (Create d ingests)
+created_known s content d ingests known is =
+    is
     ∙ sym (ap (λ (x : Option Object). Some (option_map_or (λ (o : Object). shown.Files (files_view s.next.object o)) x shown.Nothing)) (get_here s.objects s.next.object (filled s content d ingests)))
 
 -- what is changed at a number stands there
@@ -59,19 +58,19 @@ module _ (s : State) (content : List ℕ) (n : ℕ) (o : Object) (there : finmap
   pub files_known : (new : List NewFile) (row : ObjectRow) → row ≡ object_row n (with_other_files s (files_added s content new finmap.empty) o) → Some (shown.ObjectRow row) ≡ known_shown s content (SetFiles n new)
   files_known new row is = row_after (with_other_files s (files_added s content new finmap.empty)) row is
 
-  pub replaced_known : (d : Deposit) (ingests : Bool) (reported : ObjectView) → reported ≡ files_view n (filled s content d (o.ingested || ingests))
-      → Some (shown.Files reported) ≡ known_shown s content (Replace n d ingests)
-  replaced_known d ingests reported is =
-      ap (λ (v : ObjectView). Some (shown.Files v)) is
+  pub replaced_known : (d : Deposit) (ingests : Bool) (known : Option Shown) → known ≡ Some (shown.Files (files_view n (filled s content d (o.ingested || ingests))))
+      → known ≡ known_shown s content (Replace n d ingests)
+  replaced_known d ingests known is =
+      is
       ∙ sym (ap (λ (x : Option Object). Some (option_map_or (λ (y : Object). shown.Files (files_view n y)) x shown.Nothing)) (at_here s.objects n o (λ (y : Object). filled s content d (y.ingested || ingests)) there))
 
-  pub file_known : (f : ℕ) (new : NewFile) (row : FileRow) → row ≡ file_row n f (file_from s content new) → Some (shown.File row) ≡ known_shown s content (SetFile n f new)
-  file_known f new row is =
+  pub file_known : (f : ℕ) (new : NewFile) (known : Option Shown) → known ≡ Some (shown.File (file_row n f (file_from s content new))) → known ≡ known_shown s content (SetFile n f new)
+  file_known f new known is =
       let file = file_from s content new in
       let after = λ (y : Object). with_other_files s (finmap.insert y.files f file) y in
       let found : option_and_then (λ (y : Object). finmap.get y.files f) (finmap.get (at s.objects n after) n) ≡ Some file =
       ap (option_and_then (λ (y : Object). finmap.get y.files f)) (at_here s.objects n o after there) ∙ get_here o.files f file in
-      ap (λ (r : FileRow). Some (shown.File r)) is
+      is
       ∙ sym (ap (λ (x : Option File). Some (option_map_or (λ (y : File). shown.File (file_row n f y)) x shown.Nothing)) found)
 
 -- ---- the row of the object that is touched

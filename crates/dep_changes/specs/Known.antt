@@ -5,9 +5,7 @@ use Rattle.dep_types.specs.State.{State}
 use Rattle.std.specs.FinMap as map
 use Rattle.dep_types.specs.Rows.{file_row, object_row}
 use Rattle.dep_types.specs.declared.counters.Counters.{Counters}
-use Rattle.dep_types.specs.declared.rows.FileRow.{FileRow}
 use Rattle.dep_types.specs.declared.rows.ObjectRow.{ObjectRow as Row}
-use Rattle.dep_types.specs.declared.rows.ObjectView.{ObjectView}
 use Rattle.dep_decisions.specs.Effects.{effect_of, file_from, filled}
 use Rattle.dep_decisions.specs.declared.decision.Decision.{Decision}
 use Rattle.dep_decisions.specs.declared.decision.Deposit.{Deposit}
@@ -17,6 +15,7 @@ use Rattle.dep_answers.specs.ReadSets.{files_view, shown_at}
 use Rattle.dep_answers.specs.declared.read_set.ReadSet.{ReadSet}
 use Rattle.dep_answers.specs.declared.read_set.ReadSet.TheVariants.{File, Files, ObjectRow}
 use Rattle.dep_answers.specs.declared.read_set.Shown.{Shown}
+use Rattle.dep_answers.specs.declared.read_set.Shown.TheVariants as shown
 use Rattle.dep_operations.specs.declared.view.View.{View}
 use Rattle.dep_changes.specs.Reported.{ReportsDeposit}
 use Rattle.dep_changes.specs.declared.change.Change.{Change}
@@ -57,10 +56,12 @@ known_row s content view d = view.object >>= row_left s content d
 abbrev pub ReportsNumbered : NumberedDeposit → State → Type 0
 ReportsNumbered d s = ReportsDeposit d.change.now s d.deposit.now
 
--- an object that has this deposit alone, as it is shown without its metadata
-abbrev pub IsFilledView : State → Change → Deposit → (n : ℕ) → (ingested : Bool) → ObjectView → Type 0
-IsFilledView s change d n ingested view = view ≡ files_view n (filled s change.content.now d ingested)
+-- an object that has this deposit alone is shown, without its metadata
+abbrev pub ShowsFilled : State → Change → Deposit → (n : ℕ) → (ingested : Bool) → Option Shown → Type 0
+ShowsFilled s change d n ingested known =
+    known ≡ Some (shown.Files (files_view n (filled s change.content.now d ingested)))
 
--- the row of a file that is the content of this change
-abbrev pub IsRowFrom : State → Change → NewFile → (n f : ℕ) → FileRow → Type 0
-IsRowFrom s change new n f row = row ≡ file_row n f (file_from s change.content.now new)
+-- the row of a file is shown that is the content of this change
+abbrev pub ShowsFile : State → Change → NewFile → (n f : ℕ) → Option Shown → Type 0
+ShowsFile s change new n f known =
+    known ≡ Some (shown.File (file_row n f (file_from s change.content.now new)))

@@ -7,11 +7,12 @@ ghost use Rattle.dep_types.specs.State.{State, Object};
 ghost use Rattle.dep_decisions.specs.Effects.{blank};
 ghost use Rattle.dep_decisions.specs.declared.decision.Deposit.TheVariants.{Files};
 ghost use Rattle.dep_changes.specs.Changed.{new_rows};
-ghost use Rattle.dep_changes.specs.Known.{IsFilledView, IsRowFrom, ReportsNumbered};
+ghost use Rattle.dep_changes.specs.Known.{ReportsNumbered, ShowsFile, ShowsFilled};
 ghost use Rattle.dep_changes.specs.Reported.{ReportsDeposit, ReportsNewFile, ReportsObject};
 
 use crate::change::{Change, NumberedDeposit, NumberedFiles, touched_object};
 use crate::new_files::{FileNumbers, row_of};
+use dep_answers::Shown;
 use dep_decisions::{Deposit, NewFile};
 use dep_types::{FileRow, List, Metadata, ObjectRow, ObjectView, StoreFault};
 
@@ -35,46 +36,47 @@ fn new_rows(numbered: &NumberedFiles<'_>, object: u64) -> Result<List<FileRow>, 
     Ok(List::from_vec(rows))
 }
 
-/// Returns the object of this row and its files, as they are shown once it has this deposit alone.
+/// What is shown of the object of this row and its files, once it has this deposit alone.
 pub(crate) fn filled_view(
     numbered: &NumberedDeposit<'_>,
     row: ObjectRow,
-) -> Result<ObjectView, StoreFault>
+) -> Result<Option<Shown>, StoreFault>
     ensures reported { (s : State) (n : ℕ) (ingested : Bool)
         → ReportsNumbered numbered.now s → row ≡ object_row n (blank s ingested)
-        → IfOk result (IsFilledView s numbered.now.change.now numbered.now.deposit.now n ingested) }
+        → IfOk result (ShowsFilled s numbered.now.change.now numbered.now.deposit.now n ingested) }
 {
     let change = numbered.change;
     match numbered.deposit {
         Deposit::Files(files) => {
             let files = files.as_slice();
             let rows = new_rows(&NumberedFiles { change, files }, row.object)?;
-            Ok(ObjectView {
+            Ok(Some(Shown::Files(ObjectView {
                 object: row,
                 metadata: Metadata::new(change.alloc),
                 files: rows,
                 sha512s: List::empty(change.alloc),
-            })
+            })))
         }
-        Deposit::Metadata(_) => Ok(ObjectView {
+        Deposit::Metadata(_) => Ok(Some(Shown::Files(ObjectView {
             object: row,
             metadata: Metadata::new(change.alloc),
             files: List::empty(change.alloc),
             sha512s: List::empty(change.alloc),
-        }),
+        }))),
     }
 }
 
-/// The row of the file of the object that is touched, once it is the content of the request.
+/// What is shown of the file of the object that is touched, once it is the content of the request.
 pub(crate) fn replaced_file(
     change: &Change<'_>,
     file: u64,
     new: &NewFile,
-) -> Result<FileRow, StoreFault>
+) -> Result<Option<Shown>, StoreFault>
     ensures reported { (s : State) (n : ℕ) (o : Object) → ReportsNewFile change.now s 0 new.now.source
         → ReportsObject change.now.view.now s n o
-        → IfOk result (IsRowFrom s change.now new.now n file) }
+        → IfOk result (ShowsFile s change.now new.now n file) }
 {
     let object = touched_object(change.view)?.object;
-    row_of(change, FileNumbers { object, file }, new, 0)
+    let row = row_of(change, FileNumbers { object, file }, new, 0)?;
+    Ok(Some(Shown::File(row)))
 }

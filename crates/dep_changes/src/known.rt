@@ -39,8 +39,7 @@ pub fn known_after(
     match decision {
         Decision::Create { deposit, ingests } => {
             let row = blank_row(view, view.next.object, *ingests);
-            let created = filled_view(&NumberedDeposit { change, deposit }, row)?;
-            Ok(Some(Shown::Files(created)))
+            filled_view(&NumberedDeposit { change, deposit }, row)
         }
         Decision::Replace {
             deposit,
@@ -49,8 +48,7 @@ pub fn known_after(
         } => {
             let was = ingested_by(touched_object(view)?, *ingests);
             let row = blank_row(view, was.object, was.ingested);
-            let replaced = filled_view(&NumberedDeposit { change, deposit }, row)?;
-            Ok(Some(Shown::Files(replaced)))
+            filled_view(&NumberedDeposit { change, deposit }, row)
         }
         Decision::SetMetadata { .. } => {
             let row = touched_object(view)?;
@@ -60,10 +58,7 @@ pub fn known_after(
             let row = touched_object(view)?;
             Ok(Some(Shown::ObjectRow(files_changed(view, row))))
         }
-        Decision::SetFile { file, new, .. } => {
-            let replaced = replaced_file(change, *file, new)?;
-            Ok(Some(Shown::File(replaced)))
-        }
+        Decision::SetFile { file, new, .. } => replaced_file(change, *file, new),
         _ => Ok(None),
     }
 }

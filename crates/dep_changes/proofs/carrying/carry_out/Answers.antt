@@ -1,12 +1,13 @@
 use Rattle.std.proofs.lemmas.Result.{IfOk-from_err}
-use Rattle.std.proofs.Common.{◌≡◌, ◌∙◌, true, false, refl, sym, ap, subst}
+use Rattle.std.proofs.Common.{◌≡◌, ◌∙◌, OnOk, Result, refl, sym, ap, subst}
 use Rattle.dep_types.specs.Numbers.{counters_after}
 use Rattle.dep_types.specs.declared.counters.Counters.{Counters}
+use Rattle.dep_types.specs.declared.store_fault.StoreFault.{StoreFault}
 use Rattle.dep_tables.specs.Tables.{Tables, tables_of}
 use Rattle.dep_tables.proofs.Results.{ok_then}
 use Rattle.dep_decisions.specs.Decisions.{numbers_for}
 use Rattle.dep_changes.specs.Changed.{with_maps}
-use Rattle.dep_changes.proofs.Carried.{numbers_reported, reported, carried, equal_counters, none_taken, same_counters}
+use Rattle.dep_changes.proofs.Carried.{numbers_reported, reported, carried, equal_counters, false_true, none_taken, same_counters}
 use Rattle.dep_row_maps.proofs.Changing.{changes_then, changes_ok, changes_err, inside_after, tables_by, tables_kept}
 use Rattle.dep_row_maps.proofs.Whole.{state_written}
 use Rattle.dep_row_maps.specs.TablesAre.{TablesAre, with_counters}
@@ -47,7 +48,7 @@ returns-clause-map g c = record {
 }
 
 pub returns-in_err-change_maps-clause-untouched : goal.returns-in_err-change_maps-clause-untouched
-returns-in_err-change_maps-clause-untouched g c show = absurd (let never = (c.in_err-change_maps.ensures.untouched show).0 in cc)
+returns-in_err-change_maps-clause-untouched g c show = absurd (subst (λ (r : Result (Unit {0}) StoreFault). OnOk r ⊥) (c.in_err-change_maps.ensures.untouched show).0 tt)
 
 pub returns-then-eq-clause-untouched : goal.returns-then-eq-clause-untouched
 returns-then-eq-clause-untouched g c show = (refl, (c.in_ok-change_maps.ensures.untouched show).1)
@@ -57,8 +58,7 @@ returns-clause-untouched g c show =
     let next = c.after_taking-next.result in
     let was = c.args.view.now.next in
     let still = none_taken next was c.numbers_for.result c.after_taking-next.ensures (c.numbers_for.ensures ∙ ap numbers_for show) in
-    let never : false ≡ true = sym c.if-eq.false ∙ c.eq.ensures ∙ equal_counters next was still in
-    absurd (cc)
+    absurd (false_true (sym c.if-eq.false ∙ c.eq.ensures ∙ equal_counters next was still))
 
 pub returns-in_err-change_maps-clause-map : goal.returns-in_err-change_maps-clause-map
 returns-in_err-change_maps-clause-map g c = record {

@@ -1,9 +1,10 @@
-use Rattle.std.proofs.Common.{List, length, ap, sym, ◌∙◌}
+use Rattle.std.proofs.Common.{List, length, refl, ap, sym, ◌∙◌}
+use Rattle.dep_row_maps.proofs.Changing.{changes_put}
 use Rattle.dep_decisions.specs.Decisions.{numbers_for}
 use Rattle.dep_decisions.specs.declared.decision.NewFile.{NewFile}
 use Rattle.dep_decisions.specs.declared.decision.Decision.{Decision}
 use Rattle.dep_decisions.specs.declared.decision.Decision.TheVariants.{SetFiles}
-use Rattle.dep_changes.proofs.Carried.{room_of_files, carried_as}
+use Rattle.dep_changes.proofs.Carried.{as_shown, carried_as, room_of_files}
 use Rattle.dep_changes.proofs.carrying.change_maps.Goals as goal
 
 pub invariant_of-create : goal.invariant_of-create
@@ -18,44 +19,87 @@ invariant_of-replace g c = record { room = room_of_files c.args.change.now.view.
 pub invariant_of-set_files : goal.invariant_of-set_files
 invariant_of-set_files g c = record { room = room_of_files c.args.change.now.view.now.next c.args.decision.now _ (ap (λ (d : Decision). (numbers_for d).file) c.in-SetFiles.is ∙ ap length (sym c.as_slice-files.ensures)) c.requires }
 
-pub returns-in-Create-clause-map : goal.returns-in-Create-clause-map
-returns-in-Create-clause-map g c = carried_as c.args.change.now c.in-Create.is c.create.ensures.map
+pub returns-in-Create : goal.returns-in-Create
+returns-in-Create g c = record {
+  map = carried_as c.args.change.now c.in-Create.is c.create.ensures.map;
+  untouched = λ show. absurd (as_shown c.in-Create.is show);
+}
 
-pub returns-in-Append-clause-map : goal.returns-in-Append-clause-map
-returns-in-Append-clause-map g c = carried_as c.args.change.now c.in-Append.is (c.append.ensures.map c.in-Append.object)
+pub returns-in-Append : goal.returns-in-Append
+returns-in-Append g c = record {
+  map = carried_as c.args.change.now c.in-Append.is (c.append.ensures.map c.in-Append.object);
+  untouched = λ show. absurd (as_shown c.in-Append.is show);
+}
 
-pub returns-in-Replace-clause-map : goal.returns-in-Replace-clause-map
-returns-in-Replace-clause-map g c = carried_as c.args.change.now c.in-Replace.is (c.replace.ensures.map c.in-Replace.object)
+pub returns-in-Replace : goal.returns-in-Replace
+returns-in-Replace g c = record {
+  map = carried_as c.args.change.now c.in-Replace.is (c.replace.ensures.map c.in-Replace.object);
+  untouched = λ show. absurd (as_shown c.in-Replace.is show);
+}
 
-pub returns-in-Complete-clause-map : goal.returns-in-Complete-clause-map
-returns-in-Complete-clause-map g c = carried_as c.args.change.now c.in-Complete.is (c.complete.ensures.map c.in-Complete.object)
+pub returns-in-Complete : goal.returns-in-Complete
+returns-in-Complete g c = record {
+  map = carried_as c.args.change.now c.in-Complete.is (c.complete.ensures.map c.in-Complete.object);
+  untouched = λ show. absurd (as_shown c.in-Complete.is show);
+}
 
-pub returns-in-SetMetadata-clause-map : goal.returns-in-SetMetadata-clause-map
-returns-in-SetMetadata-clause-map g c = carried_as c.args.change.now c.in-SetMetadata.is (c.set_texts.ensures.map c.in-SetMetadata.object)
+pub returns-in-SetMetadata : goal.returns-in-SetMetadata
+returns-in-SetMetadata g c = record {
+  map = carried_as c.args.change.now c.in-SetMetadata.is (c.set_texts.ensures.map c.in-SetMetadata.object);
+  untouched = λ show. absurd (as_shown c.in-SetMetadata.is show);
+}
 
-pub returns-in-SetFiles-clause-map : goal.returns-in-SetFiles-clause-map
-returns-in-SetFiles-clause-map g c =
-    carried_as c.args.change.now (c.in-SetFiles.is ∙ ap (λ (new : List NewFile). SetFiles c.in-SetFiles.object new) (sym c.as_slice-files.ensures))
-    (c.set_files.ensures.map c.in-SetFiles.object)
+pub returns-in-SetFiles : goal.returns-in-SetFiles
+returns-in-SetFiles g c = record {
+  map =
+      carried_as c.args.change.now (c.in-SetFiles.is ∙ ap (λ (new : List NewFile). SetFiles c.in-SetFiles.object new) (sym c.as_slice-files.ensures))
+      (c.set_files.ensures.map c.in-SetFiles.object);
+  untouched = λ show. absurd (as_shown c.in-SetFiles.is show);
+}
 
-pub returns-in-SetFile-clause-map : goal.returns-in-SetFile-clause-map
-returns-in-SetFile-clause-map g c = carried_as c.args.change.now c.in-SetFile.is (c.set_file.ensures.map c.in-SetFile.object)
+pub returns-in-SetFile : goal.returns-in-SetFile
+returns-in-SetFile g c = record {
+  map = carried_as c.args.change.now c.in-SetFile.is (c.set_file.ensures.map c.in-SetFile.object);
+  untouched = λ show. absurd (as_shown c.in-SetFile.is show);
+}
 
-pub returns-in-DropFile-clause-map : goal.returns-in-DropFile-clause-map
-returns-in-DropFile-clause-map g c = carried_as c.args.change.now c.in-DropFile.is (c.drop_file.ensures.map c.in-DropFile.object)
+pub returns-in-DropFile : goal.returns-in-DropFile
+returns-in-DropFile g c = record {
+  map = carried_as c.args.change.now c.in-DropFile.is (c.drop_file.ensures.map c.in-DropFile.object);
+  untouched = λ show. absurd (as_shown c.in-DropFile.is show);
+}
 
-pub returns-in-DropObject-clause-map : goal.returns-in-DropObject-clause-map
-returns-in-DropObject-clause-map g c =
-    carried_as c.args.change.now c.in-DropObject.is
-    (record { done = λ clean inside ours s are reported. c.drop_object.ensures.map.done reported.1.0 clean inside ours s are reported.1.1.1; keeps = c.drop_object.ensures.map.keeps })
+pub returns-in-DropObject : goal.returns-in-DropObject
+returns-in-DropObject g c = record {
+  map =
+      carried_as c.args.change.now c.in-DropObject.is
+      (record { done = λ clean inside ours s are reported. c.drop_object.ensures.map.done reported.1.0 clean inside ours s are reported.1.1.1; keeps = c.drop_object.ensures.map.keeps });
+  untouched = λ show. absurd (as_shown c.in-DropObject.is show);
+}
 
-pub returns-in-Open-clause-map : goal.returns-in-Open-clause-map
-returns-in-Open-clause-map g c = carried_as c.args.change.now c.in-Open.is c.open.ensures.map
+pub returns-in-Open : goal.returns-in-Open
+returns-in-Open g c = record {
+  map = carried_as c.args.change.now c.in-Open.is c.open.ensures.map;
+  untouched = λ show. absurd (as_shown c.in-Open.is show);
+}
 
-pub returns-in-Receive-clause-map : goal.returns-in-Receive-clause-map
-returns-in-Receive-clause-map g c = carried_as c.args.change.now c.in-Receive.is (c.receive.ensures.map c.in-Receive.upload)
+pub returns-in-Receive : goal.returns-in-Receive
+returns-in-Receive g c = record {
+  map = carried_as c.args.change.now c.in-Receive.is (c.receive.ensures.map c.in-Receive.upload);
+  untouched = λ show. absurd (as_shown c.in-Receive.is show);
+}
 
-pub returns-in-DropUpload-clause-map : goal.returns-in-DropUpload-clause-map
-returns-in-DropUpload-clause-map g c =
-    carried_as c.args.change.now c.in-DropUpload.is
-    (record { done = λ clean inside ours s are reported. c.drop_upload.ensures.does.map clean inside ours s are; keeps = c.drop_upload.ensures.does.keeps })
+pub returns-in-DropUpload : goal.returns-in-DropUpload
+returns-in-DropUpload g c = record {
+  map =
+      carried_as c.args.change.now c.in-DropUpload.is
+      (record { done = λ clean inside ours s are reported. c.drop_upload.ensures.does.map clean inside ours s are; keeps = c.drop_upload.ensures.does.keeps });
+  untouched = λ show. absurd (as_shown c.in-DropUpload.is show);
+}
+
+pub returns-in-Show : goal.returns-in-Show
+returns-in-Show g c = record {
+  map = carried_as c.args.change.now c.in-Show.is
+      (record { done = λ clean inside ours s are reported. are; keeps = changes_put g.T.Statements.lenders g.T.Statements.state c.args.tx.now _ });
+  untouched = λ show. (refl, refl {a = c.args.tx.now});
+}
