@@ -1,5 +1,7 @@
 -- What members keep, one after another.
-use Rattle.std.proofs.Common.{◌≡◌, ℕ, List, true, false, Option, Some, None, option_map, if◌then◌else◌, refl, ap, ◌∙◌}
+use Rattle.std.proofs.Common.{◌≡◌, ◌==◌, ℕ, List, [], ◌∷◌, length, true, false, Option, Some, None, option_map, if◌then◌else◌, refl, sym, ap, ◌∙◌, arith}
+use Rattle.std.proofs.lemmas.Bool.{eqb-true}
+use Rattle.std.specs.FinMap as map
 use Rattle.serde_json.specs.Data.{Data, Members, member}
 use Rattle.dep_types.specs.Maps.{◌>>=◌}
 use Rattle.dep_types.specs.Names.{is_kept_name}
@@ -38,3 +40,19 @@ member_fails name d old rest Malformed is none =
     ap (λ b. if b then texts_in d >>= (λ texts. kept_texts (keep name texts old) rest) else kept_texts old rest) is
     ∙ none_kept (texts_in d) (λ texts. keep name texts old) (λ texts. kept_texts (keep name texts old) rest) none
 member_fails name d old rest Memory is none = tt
+
+-- what is made of what is read, where nothing can be read
+pub unmade : {X Y : Type 0} (f : X → Y) (read : Option X) (e : DocFault) → IsUnreadable e read → IsUnreadable e (option_map f read)
+unmade f read Malformed none = ap (option_map f) none
+unmade f read Memory none = tt
+
+-- texts are put under their name, where there are some
+pub none_put : (name : List ℕ) (read : Option (List (List ℕ))) (texts : List (List ℕ)) (old : Texts) → read ≡ Some texts → (length texts == 0) ≡ true
+    → option_map (λ texts. keep name texts old) read ≡ Some old
+none_put name read [] old is none = ap (option_map (λ texts. keep name texts old)) is
+none_put name read (text ∷ texts) old is none = absurd (omega (arith, eqb-true (length (text ∷ texts)) 0 none))
+
+pub some_put : (name : List ℕ) (read : Option (List (List ℕ))) (texts : List (List ℕ)) (old new : Texts) → read ≡ Some texts → (length texts == 0) ≡ false
+    → new ≡ map.insert old name texts → option_map (λ texts. keep name texts old) read ≡ Some new
+some_put name read [] old new is some put = cc some
+some_put name read (text ∷ texts) old new is some put = ap (option_map (λ texts. keep name texts old)) is ∙ ap Some (sym put)

@@ -89,6 +89,21 @@ each_goes_on {X = X} P old new at next before here others e place h = elim (case
   | inr ge ↦ let is : place ≡ at = omega (arith, ge, h, e) in subst (λ (n : ℕ). P (slot_at n new)) (sym is) here
 ]
 
+-- so it does where nothing changes: what was read at the one more is looked at
+pub one_more : {X : Type 0} (P : Option X → Type 0) (slots : List (Option X)) (at : ℕ) (x : Option X) → at < length slots → x ≡ get_or slots at x → P x → ((place : ℕ) → place < at → P (slot_at place slots))
+    → (place : ℕ) → place < at + 1 → P (slot_at place slots)
+one_more {X = X} P slots at x there read here before =
+    each_goes_on P slots slots at (at + 1) before (subst (λ (y : Option X). P y) (sym (slot_read at slots x there read)) here) (λ place ne. refl) refl
+
+-- whether somebody was read there
+pub somebody : {X : Type 0} (x : Option X) → is_some x ≡ true → x ≡ None → ⊥
+somebody None there e = let bad : false ≡ true = there in cc
+somebody (Some slot) there e = cc
+
+pub nobody : {X : Type 0} (x : Option X) → is_some x ≡ false → x ≡ None
+nobody None gone = refl
+nobody (Some slot) gone = let bad : true ≡ false = gone in cc
+
 -- so at all places, where it holds where nobody is, also once one was closed
 pub each_evicts : {X : Type 0} (P : Option X → Type 0) (old new : List (Option X)) (at : ℕ) → P None → ((place : ℕ) → at ≤ place → slot_at place old ≡ None) → ((place : ℕ) → place < at → P (slot_at place old))
     → ((place : ℕ) → (slot_at place new ≡ slot_at place old) ⊎ (slot_at place new ≡ None)) → (place : ℕ) → P (slot_at place new)

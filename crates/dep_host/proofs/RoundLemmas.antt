@@ -1,5 +1,5 @@
 -- The rounds of a host that is shut.
-use Rattle.std.proofs.Common.{◌≡◌, inl, inr, ◌≤◌, ◌+◌, ◌-◌, ℕ, true, false, List, [], ◌∷◌, ◌++◌, Option, None, Some, is_some, IfSome, All, Contains, length, take, get_or, refl, sym, ap, subst, ◌∙◌, arith}
+use Rattle.std.proofs.Common.{◌≡◌, inl, inr, ◌≤◌, ◌+◌, ◌-◌, ℕ, false, List, [], ◌∷◌, ◌++◌, Option, None, Some, is_some, IfSome, All, Contains, length, take, get_or, refl, sym, ap, subst, ◌∙◌, arith}
 use Rattle.std.proofs.lemmas.List.{get_or_append_left, get_or-append_right, length-append}
 use Rattle.std.proofs.Math.Seq.{take-append_seam}
 use Rattle.std.proofs.lemmas.List.Elements.{All-nil, All-append, All-take, All-from_get_or, All-from_recursion, Contains-append_left, Contains-append_right}
@@ -18,11 +18,7 @@ use Rattle.dep_host.specs.Coming.{seconds_of}
 use Rattle.dep_slot.specs.ConnectionStates.{is_past}
 use Rattle.dep_host.specs.Rounds.{IsReported, gone_on, EndsInTime, is_overdue}
 
--- who isn't shut isn't overdue
-pub unreported_in_time : (o : Option Shut) (second : ℕ) (limits : Limits) → is_some o ≡ false → is_overdue o second limits ≡ false
-unreported_in_time None second limits unreported = refl
-unreported_in_time (Some since) second limits unreported = absurd (let bad : true ≡ false = unreported in cc)
-
+-- an event has one second at most
 pub one_second : {R K S : Type 0} (event : Event R K S) → length (seconds_of event) ≤ 1
 one_second (Ready at r w) = omega arith
 one_second (Client client) = omega arith

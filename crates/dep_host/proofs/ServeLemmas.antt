@@ -253,15 +253,15 @@ module _ {A R K S : Type 0} (condition : A → Condition) (unread : R → Option
   }
 
   -- a connection had its turn, once that had begun
-  pub served : (p q : Position A R K S) (at : ℕ) (time : Time) (is_full is_shut may_send has_sent is_awaited : Bool) (reported_old reported_new : Option (List Note)) (before mid after : Slot R K S) → reported_new ≡ reported_old → at < length p.slots → slot_at at p.slots ≡ Some before
+  pub served : (p q : Position A R K S) (at : ℕ) (time : Time) (is_full is_shut may_send has_sent told is_awaited : Bool) (reported_old reported_new : Option (List Note)) (before mid after : Slot R K S) → reported_new ≡ reported_old → at < length p.slots → slot_at at p.slots ≡ Some before
       → q.slots ≡ set p.slots at (Some after) → q.limits ≡ p.limits → q.shut ≡ p.shut → mid ≡ record before { state = mid.state }
       → (mid.state.phase ≡ Open → before.state.phase ≡ Open) → (is_ended before.state.phase ≡ true → is_ended mid.state.phase ≡ true)
       → mid.state.unfinished ≡ before.state.unfinished → mid.state.phase ≡ phase_begun before.state.phase is_shut → mid.state.is_readable ≡ before.state.is_readable
       → mid.state.is_writable ≡ before.state.is_writable → is_shut ≡ is_some p.shut
-      → mid.state.is_awaited ≡ is_sending before.state.phase && is_awaited → is_awaited_at p.hub.connections.items before.connection ≡ is_awaited
+      → mid.state.is_awaited ≡ told → told ≡ is_sending before.state.phase && is_awaited → is_awaited_at p.hub.connections.items before.connection ≡ is_awaited
       → (has_sent ≡ true → (may_send ≡ true) × (slot_action size mid ≡ to.Send)) → (has_sent ≡ false → may_send ≡ true → slot_action size mid ≡ to.Send → ⊥)
       → TakesTurn condition unread taken held size causes p.hub q.hub mid after time.moment is_full is_shut may_send → ServesSlot condition unread taken held size causes p q at time is_full may_send has_sent reported_old reported_new
-  served p q at time is_full is_shut may_send has_sent is_awaited reported_old reported_new before mid after quiet there sat sits limits shut same opens ended count phase readable writable reported awaited asked sends_so sends_not t =
+  served p q at time is_full is_shut may_send has_sent told is_awaited reported_old reported_new before mid after quiet there sat sits limits shut same opens ended count phase readable writable reported knows awaited asked sends_so sends_not t =
       let m : Position A R K S = record p { slots = set p.slots at (Some mid) } in
       let begun : slot_at at m.slots ≡ Some mid = get_or-set_same p.slots at (Some mid) None there in
       let unfinished : unfinished_of (slot_at at m.slots) ≡ unfinished_of (slot_at at p.slots) =
@@ -315,7 +315,7 @@ module _ {A R K S : Type 0} (condition : A → Condition) (unread : R → Option
           is_awaited = is_awaited;
           asked = record { earlier = []; later = s.actions; all = refl; mid = p; next = p; came = begins; is = asked; goes = steps_join condition unread taken held began s.steps };
           served = subst (λ (d : NextAction). IsServed condition unread taken held size causes p q s.actions is_full may_send before after (answers_at at s.actions) (pieces_at at s.actions) (sendings_at at s.actions) d)
-              (action_begun p.shut is_shut is_awaited before mid reported phase wire readable writable awaited)
+              (action_begun p.shut is_shut is_awaited before mid reported phase wire readable writable (knows ∙ awaited))
               (served_begun p m q s.actions is_full may_send before mid after (answers_at at s.actions) (pieces_at at s.actions) (sendings_at at s.actions) (slot_action size mid) began refl number wire count writable twice s.does);
         });
         in_time = s.in_time;

@@ -11,6 +11,7 @@ use dep_slot::{
     Client, Closing, HostLog, Limits, ReadBuffer, Rejection, Slot, Time, Turn, TurnOutcome,
 };
 use std::alloc::{AllocError, Global};
+use std::mem;
 use std::net::IpAddr;
 
 /// How many connections are served at once.
@@ -227,7 +228,7 @@ impl<A: Archive, R: Source + Drop, K: Sink + Drop, S: Spool + Drop> Host<A, R, K
         };
         log.opened(connection, client.address);
         self.end = self.end.max(at + 1);
-        self.slots[at] = Some(Slot::new(connection, client));
+        drop(mem::replace(&mut self.slots[at], Some(Slot::new(connection, client))));
         Ok(())
     }
 
@@ -343,9 +344,10 @@ impl<A: Archive, R: Source + Drop, K: Sink + Drop, S: Spool + Drop> Host<A, R, K
             (farewell closing (slot_at at self.old.slots.items)) }
     {
         if let Some(slot) = self.slots[at].take() {
-            self.hub.close(slot.connection());
+            let connection = slot.connection();
+            self.hub.close(connection);
             slot.break_off(log);
-            log.closed(slot.connection(), slot.address(), closing, slot.bytes());
+            log.closed(connection, slot.address(), closing, slot.bytes());
             drop(slot);
         }
     }
@@ -413,10 +415,7 @@ fn empty_slots<R: Drop, K: Drop, S: Drop>(
 {
     let mut slots = Vec::with_capacity(alloc, MOST_SEATS)?;
     for _ in 0..MOST_SEATS {
-        if let Err(refused) = slots.push(None) {
-            drop(refused);
-            return Err(AllocError);
-        }
+        slots.push(None)?;
     }
     Ok(slots)
 }

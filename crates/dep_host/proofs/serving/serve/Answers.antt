@@ -1,4 +1,5 @@
 use Rattle.std.proofs.Common.{◌≡◌, true, false, rules, [], Err, refl, ap, ◌∙◌}
+use Rattle.dep_hub.specs.Representing.{IsClean}
 use Rattle.dep_slot.specs.Causes.{causes_of}
 use Rattle.dep_host.proofs.CloseLemmas.{promised}
 use Rattle.dep_host.proofs.ShutLemmas.{steps_rightly, reported_by_store, unreported_rightly}
@@ -33,7 +34,7 @@ returns-in-Err g c =
       end = λ e. c.next-event.ensures.end (is_the_end g.A.Archive.condition g.R.Source.unread g.K.Sink.taken g.S.Spool.held g.A.Archive.call_log g.S.Spool.size (causes_of g.R.Source.halts g.K.Sink.halts g.S.Spool.failures) g.L.HostLog.notes _ _ _ _ _ c.next-event.result c.meet.result (c.in-Err.is ∙ ap Err e) c.meet.ensures.met);
       shut = λ ends none.
           let may = c.meet.ensures.shut Store (c.in-Err.is ∙ ap Err ends) in
-          reported_by_store _ _ may.0 (steps_rightly g.A.Archive.condition g.R.Source.unread g.K.Sink.taken g.S.Spool.held met.1.steps (unreported_rightly _ _ none));
+          reported_by_store (IsClean g.A.Archive.condition c.meet.new.host.hub) c.meet.new.host.shut may.0 (steps_rightly g.A.Archive.condition g.R.Source.unread g.K.Sink.taken g.S.Spool.held met.1.steps (unreported_rightly _ _ none));
     }
 
 pub returns : goal.returns

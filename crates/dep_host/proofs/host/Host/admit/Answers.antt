@@ -1,4 +1,6 @@
-use Rattle.std.proofs.Common.{◌≡◌, None, refl, sym, subst, [], ◌∷◌, ◌∙◌, arith}
+use Rattle.std.proofs.Common.{◌≡◌, Option, None, set, ap, refl, sym, subst, [], ◌∷◌, ◌∙◌, arith}
+use Rattle.std.proofs.Math.ListN.{length-set}
+use Rattle.std.proofs.lemmas.List.{get_or-set_other}
 use Rattle.std.specs.Io.KnownBytes.{IsAtEnd}
 use Rattle.dep_exchange.specs.Records.{Live}
 use Rattle.dep_hub.specs.Holding.{LineTransition}
@@ -36,7 +38,7 @@ returns g c = record {
   comes = record {
     there = c.requires.vacant.0;
     free = c.requires.vacant.1;
-    sits = refl;
+    sits = ap (λ (o : Option _). set c.args.self.now.slots.items c.args.at o) c.replace.ensures.after;
     is_next = c.new.ensures.number ∙ c.in-Ok.ensures.next.0;
     next = c.in-Ok.ensures.next.1;
     moves = subst (λ n. LineTransition g.A.Archive.condition c.args.self.now.hub c.connect.new.self n (Live []) (λ kept. kept)) (sym c.new.ensures.number) c.in-Ok.ensures.holding;
@@ -61,3 +63,14 @@ returns g c = record {
   stays = stays_set _ _ c.args.at _ refl refl refl refl refl;
   noted = subst (λ n. GrowsWhereShown (g.L.HostLog.notes c.args.log.now) (g.L.HostLog.notes c.opened.new.self) (LetIn n c.args.client.address ∷ [])) (sym c.new.ensures.number) c.opened.ensures.noted;
 }
+
+pub invariant_of-self : goal.invariant_of-self
+invariant_of-self g c = record { within = c.args.self.now.within; free = c.args.self.now.free }
+
+pub invariant_of-self-2 : goal.invariant_of-self-2
+invariant_of-self-2 g c =
+    let end = c.max-self.ensures in
+    record {
+      within = omega (arith, end, c.requires.vacant.0, c.args.self.now.within, length-set c.args.self.now.slots.items c.args.at c.replace.new.dest);
+      free = λ place h. get_or-set_other _ c.args.at place _ None (λ here. omega (arith, end, h, here)) ∙ c.args.self.now.free place (omega (arith, end, h));
+    }

@@ -19,8 +19,8 @@ returns-in-Some-clause-goes g c = record {
         gone = ap (λ y. set c.args.self.now.slots.items c.args.at y) c.take.ensures.after;
         done = subst (λ o. MayGo (position c.args.self.now) c.args.second c.args.closing o) sat c.requires.done;
         next = c.close.ensures.kept.next;
-        moves = subst (λ (n : ℕ). LineTransition g.A.Archive.condition c.args.self.now.hub c.close.new.self n Absent (with_held n [])) c.connection.ensures c.close.ensures.holding;
-        behind = subst (λ (n : ℕ). (number : ℕ) → behind_at c.close.new.self.connections.items number ≡ (if number == n then Nothing else behind_at c.args.self.now.hub.connections.items number)) c.connection.ensures c.close.ensures.behind;
+        moves = subst (λ (n : ℕ). LineTransition g.A.Archive.condition c.args.self.now.hub c.close.new.self n Absent (with_held n [])) c.connection-connection.ensures c.close.ensures.holding;
+        behind = subst (λ (n : ℕ). (number : ℕ) → behind_at c.close.new.self.connections.items number ≡ (if number == n then Nothing else behind_at c.args.self.now.hub.connections.items number)) c.connection-connection.ensures c.close.ensures.behind;
         same_store = c.close.ensures.kept.store;
         same_config = c.close.ensures.kept.config;
         same_limits = refl;
@@ -43,4 +43,8 @@ invariant_of-self g c = record {
 
 pub invariant_of-self-in_default : goal.invariant_of-self-in_default
 invariant_of-self-in_default g c = absurd (nobody_may_go _ c.args.second c.args.closing _ c.requires.done
+    (slot_read _ _ _ c.requires.there c.index_mut.ensures.value ∙ (sym c.take.ensures.value ∙ c.in_default.is)))
+
+pub returns-in_default-clause-noted : goal.returns-in_default-clause-noted
+returns-in_default-clause-noted g c = absurd (nobody_may_go _ c.args.second c.args.closing _ c.requires.done
     (slot_read _ _ _ c.requires.there c.index_mut.ensures.value ∙ (sym c.take.ensures.value ∙ c.in_default.is)))

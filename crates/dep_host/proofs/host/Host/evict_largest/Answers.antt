@@ -45,3 +45,12 @@ returns-else-is_full-clause-goes g c = (
     refl,
   ),
 )
+
+pub returns-else-is_full-clause-left : goal.returns-else-is_full-clause-left
+returns-else-is_full-clause-left g c = λ at. inl refl
+
+pub returns-else-is_full-clause-stays : goal.returns-else-is_full-clause-stays
+returns-else-is_full-clause-stays g c = stays_same _
+
+pub returns-then-is_read-clause-stays : goal.returns-then-is_read-clause-stays
+returns-then-is_read-clause-stays g c = c.close.ensures.goes.stays

@@ -15,8 +15,8 @@ returns-in_default-clause-goes g c =
 pub returns-clause-goes : goal.returns-clause-goes
 returns-clause-goes g c =
     let begins = c.begin_turn.ensures in
-    served g.A.Archive.condition g.R.Source.unread g.K.Sink.taken g.S.Spool.held g.S.Spool.size (causes_of g.R.Source.halts g.K.Sink.halts g.S.Spool.failures) _ _ c.args.at c.args.turn.now.time c.args.turn.now.is_full c.args.turn.now.is_shut c.args.turn.now.may_send c.take_turn-outcome.result.has_sent _ _ _ c.in-Some.slot c.begin_turn.new.self c.take_turn-outcome.new.self
-    c.take_turn-outcome.ensures.noted c.requires.there (slot_read _ _ _ c.requires.there c.index_mut.ensures.value ∙ c.in-Some.is) refl refl refl begins.same begins.opens begins.ended begins.unfinished begins.phase begins.readable begins.writable c.requires.shut (begins.awaited ∙ c.is_awaited-is_awaited.ensures) refl c.take_turn-outcome.ensures.sent c.take_turn-outcome.ensures.unsent c.take_turn-outcome.ensures.turn
+    served g.A.Archive.condition g.R.Source.unread g.K.Sink.taken g.S.Spool.held g.S.Spool.size (causes_of g.R.Source.halts g.K.Sink.halts g.S.Spool.failures) _ _ c.args.at c.args.turn.now.time c.args.turn.now.is_full c.args.turn.now.is_shut c.args.turn.now.may_send c.take_turn-outcome.result.has_sent _ _ _ _ c.in-Some.slot c.begin_turn.new.self c.take_turn-outcome.new.self
+    c.take_turn-outcome.ensures.noted c.requires.there (slot_read _ _ _ c.requires.there c.index_mut.ensures.value ∙ c.in-Some.is) refl refl refl begins.same begins.opens begins.ended begins.unfinished begins.phase begins.readable begins.writable c.requires.shut begins.awaited c.is_awaited-is_awaited.ensures refl c.take_turn-outcome.ensures.sent c.take_turn-outcome.ensures.unsent c.take_turn-outcome.ensures.turn
 
 pub returns-clause-here : goal.returns-clause-here
 returns-clause-here g c =
@@ -40,8 +40,8 @@ returns-in-Some-closing-clause-goes g c =
     let begins = c.begin_turn.ensures in
     closes_served g.A.Archive.condition g.R.Source.unread g.K.Sink.taken g.S.Spool.held g.S.Spool.size (causes_of g.R.Source.halts g.K.Sink.halts g.S.Spool.failures) _ _ _ c.args.at c.args.turn.now.time c.args.turn.now.is_full c.args.turn.now.may_send c.take_turn-outcome.result.has_sent _ _ _ c.in-Some-closing.closing _ c.close.ensures.goes.goes
     (closes_there _ c.args.at c.args.turn.now.time.second c.take_turn-outcome.new.self c.closing-closing.result c.in-Some-closing.closing (get_or-set_same _ c.args.at _ None c.requires.there) c.closing-closing.ensures c.in-Some-closing.is)
-    (served g.A.Archive.condition g.R.Source.unread g.K.Sink.taken g.S.Spool.held g.S.Spool.size (causes_of g.R.Source.halts g.K.Sink.halts g.S.Spool.failures) _ _ c.args.at c.args.turn.now.time c.args.turn.now.is_full c.args.turn.now.is_shut c.args.turn.now.may_send c.take_turn-outcome.result.has_sent _ _ _ c.in-Some.slot c.begin_turn.new.self c.take_turn-outcome.new.self
-    c.take_turn-outcome.ensures.noted c.requires.there (slot_read _ _ _ c.requires.there c.index_mut.ensures.value ∙ c.in-Some.is) refl refl refl begins.same begins.opens begins.ended begins.unfinished begins.phase begins.readable begins.writable c.requires.shut (begins.awaited ∙ c.is_awaited-is_awaited.ensures) refl c.take_turn-outcome.ensures.sent c.take_turn-outcome.ensures.unsent c.take_turn-outcome.ensures.turn)
+    (served g.A.Archive.condition g.R.Source.unread g.K.Sink.taken g.S.Spool.held g.S.Spool.size (causes_of g.R.Source.halts g.K.Sink.halts g.S.Spool.failures) _ _ c.args.at c.args.turn.now.time c.args.turn.now.is_full c.args.turn.now.is_shut c.args.turn.now.may_send c.take_turn-outcome.result.has_sent _ _ _ _ c.in-Some.slot c.begin_turn.new.self c.take_turn-outcome.new.self
+    c.take_turn-outcome.ensures.noted c.requires.there (slot_read _ _ _ c.requires.there c.index_mut.ensures.value ∙ c.in-Some.is) refl refl refl begins.same begins.opens begins.ended begins.unfinished begins.phase begins.readable begins.writable c.requires.shut begins.awaited c.is_awaited-is_awaited.ensures refl c.take_turn-outcome.ensures.sent c.take_turn-outcome.ensures.unsent c.take_turn-outcome.ensures.turn)
     c.close.ensures.noted
 
 pub returns-in-Some-closing-clause-others : goal.returns-in-Some-closing-clause-others
