@@ -1,23 +1,19 @@
 -- What answering the next item comes to, and how an arrival goes on with it.
-use Rattle.std.proofs.Common.{◌≡◌, ◌≢◌, ◌⊎◌, inl, inr, ℕ, Bool, true, false, List, [], Option, None, Result, Ok, Err, refl, sym, ap, subst, ◌∙◌}
+use Rattle.std.proofs.Common.{◌≡◌, ◌≢◌, ◌⊎◌, inl, inr, ℕ, Bool, true, false, List, [], Option, None, refl, sym, ap, subst, ◌∙◌}
 use Rattle.std.proofs.lemmas.List.{append-nil}
-use Rattle.std.specs.Prelude.{MatchResult}
 use Rattle.std.specs.Io.KnownBytes.{Appends}
-use Rattle.std.specs.declared.alloc.AllocError.{AllocError}
 use Rattle.dep_types.specs.declared.config.Config.{Config}
 use Rattle.dep_types.specs.declared.outlet.Outlet.{Ghosts}
 use Rattle.dep_types.specs.Conditions.{Condition}
 use Rattle.dep_types.specs.Writing.{HasRisen}
 use Rattle.dep_message.specs.Places.{Place, Open, Shut, Reading, IsOpen, HasBytes, shut_reading}
-use Rattle.dep_message.specs.Stream.{Item, Continue, Fault, Request, Waits}
-use Rattle.dep_message.specs.Giving.{GivesStep, HasFirstHead, Takes}
-use Rattle.dep_message.specs.declared.intake.Step.{Step}
-use Rattle.dep_message.specs.declared.intake.Step.TheVariants.{Continue100, Message, Refused, NeedMore, Dead}
+use Rattle.dep_message.specs.Stream.{Item, Waits}
+use Rattle.dep_message.specs.Giving.{Takes}
 use Rattle.dep_exchange.specs.Machine.{state_after, answer_at_place, SendsUpTo, out_of_memory}
-use Rattle.dep_exchange.specs.Sending.{Outside, Passes, SendsOver, outside, outside_of}
+use Rattle.dep_exchange.specs.Sending.{Outside, Passes, outside, outside_of}
 use Rattle.dep_exchange.specs.Owing.{Owing}
-use Rattle.dep_exchange.specs.Serving.{BeginsFirst, KeepsIntake, Arrival, Answers, IsDeadIfShut, ServedSoFar, ServesOver, answer_after}
-use Rattle.dep_exchange.specs.Nexts.{Stays, Rests, RunsOut, IsLast, IsDead, Ends, GoesOn, IsWaiting, AnswersItem, AnswersLack, AnswersNext, AnswersStep, BeginsStep, EndsAsAsked, TakesNext, arrived_after, next_behind, reading_behind}
+use Rattle.dep_exchange.specs.Serving.{KeepsIntake, Arrival, Answers, IsDeadIfShut, ServedSoFar, ServesOver, answer_after}
+use Rattle.dep_exchange.specs.Nexts.{Stays, Rests, RunsOut, IsLast, IsDead, Ends, GoesOn, IsWaiting, AnswersNext, TakesNext, arrived_after, next_behind, reading_behind}
 use Rattle.dep_exchange.specs.Shut.{EndsFixed, waits, has_ended}
 use Rattle.dep_exchange.specs.declared.rest.Rest.{Rest}
 use Rattle.dep_exchange.specs.declared.arrived.Arrived.{Arrived}
@@ -30,12 +26,8 @@ use Rattle.dep_exchange.specs.declared.sending.Answered.TheVariants.{Sent, GaveU
 use Rattle.dep_exchange.proofs.Leaving.{Settles}
 use Rattle.dep_exchange.proofs.OwingLemmas.{said_now}
 use Rattle.dep_exchange.proofs.SendingLemmas.{passes_none, passes_both, passes_at}
-use Rattle.dep_exchange.proofs.ShutLemmas.{leaves_same, leaves_both, sends_up_to, was_cut}
-use Rattle.dep_exchange.proofs.ServingLemmas.{served_more, serves_waiting, serves_last, serves_gives_up, first_at, answer_open, continue_goes_on, request_shuts, request_goes_on, fault_shuts}
-
--- what an intake gives, or why it gives nothing
-abbrev pub Given : (reading mid : Reading) → Result Step AllocError → Type 0
-Given reading mid step = MatchResult step (GivesStep reading mid) (λ _. (mid ≡ reading) × HasBytes reading.place × HasFirstHead reading.place)
+use Rattle.dep_exchange.proofs.ShutLemmas.{leaves_same, leaves_both}
+use Rattle.dep_exchange.proofs.ServingLemmas.{served_more, serves_waiting, serves_last, serves_gives_up, first_at, answer_open}
 
 -- what an intake keeps it keeps over two stretches
 pub keeps_on : (old mid new : Reading) → KeepsIntake old mid → KeepsIntake mid new → KeepsIntake old new
@@ -91,10 +83,19 @@ runs_out place taken takes failures after store answer has a cause = record {
   cause = cause;
 }
 
+-- nothing is read behind a last item
+pub reads_last : (mid : Reading) (how : Answered) → reading_behind mid (next_behind how true) ≡ shut_reading mid
+reads_last mid Sent = refl
+reads_last mid GaveUp = refl
+reads_last mid CutShort = refl
+
 -- what an intake gave was answered
 module _ (config : Config) (reading mid : Reading) (moment : ℕ) (old new : Outside) where
   abbrev Taken : Next → Type 0
   Taken n = TakesNext config reading (reading_behind mid n) moment old new n
+
+  as_read : (n : Next) (now : Reading) → now ≡ reading_behind mid n → Taken n → TakesNext config reading now moment old new n
+  as_read n now read t = subst (λ (r : Reading). TakesNext config reading r moment old new n) (sym read) t
 
   -- an item: another follows, or it was the last
   module _ (item : Item) (taken : Takes reading mid item) where
@@ -122,9 +123,10 @@ module _ (config : Config) (reading mid : Reading) (moment : ℕ) (old new : Out
     behind GaveUp is_last closes goes a = ends_behind GaveUp (λ sent. cc) a
     behind CutShort is_last closes goes a = ends_behind CutShort (λ sent. cc) a
 
-    item_taken : (is_last : Bool) → (is_last ≡ true → mid.place ≡ Shut) → (is_last ≡ false → mid.place ≡ Shut → ⊥)
-        → (n : Next) → AnswersItem config item moment old new is_last n → Taken n
-    item_taken is_last closes goes n x = subst Taken (sym x.is) (behind x.how is_last closes goes x.answers)
+    pub takes_next : (is_last : Bool) → (is_last ≡ true → mid.place ≡ Shut) → (is_last ≡ false → mid.place ≡ Shut → ⊥)
+        → (how : Answered) → Answers config old new item moment how → (n : Next) → n ≡ next_behind how is_last
+        → (now : Reading) → now ≡ reading_behind mid n → TakesNext config reading now moment old new n
+    takes_next is_last closes goes how a n e now read = as_read n now read (subst Taken (sym e) (behind how is_last closes goes a))
 
   -- memory ran out
   lack_by : (how : Answered) → RunsOut reading.place old new (answer_after how) → AnswersNext config reading moment old new Shut (next_behind how true)
@@ -139,68 +141,35 @@ module _ (config : Config) (reading mid : Reading) (moment : ℕ) (old new : Out
     less = λ m. absurd (never_more how m);
   }
 
-  lack_taken : (how : Answered) → mid ≡ reading → RunsOut reading.place old new (answer_after how) → Taken (next_behind how true)
-  lack_taken Sent same o = ends_out Sent same o
-  lack_taken GaveUp same o = ends_out GaveUp same o
-  lack_taken CutShort same o = ends_out CutShort same o
-
-  by_step : (step : Result Step AllocError) → Given reading mid step → (n : Next) → AnswersStep config moment old new step n → Taken n
-  by_step (Ok Continue100) h n x = item_taken Continue h false (λ e. cc) (λ _. continue_goes_on _ _ _ h.first) n x
-  by_step (Ok (Message m is_last)) h n x =
-      item_taken (Request m) h.0 is_last (λ e. request_shuts _ _ _ m (sym h.1 ∙ e) h.0.first) (λ e. request_goes_on _ _ _ m (sym h.1 ∙ e) h.0.first) n x
-  by_step (Ok (Refused refusal head_only)) h n x = item_taken (Fault refusal head_only) h true (λ _. fault_shuts _ _ _ _ _ h.first) (λ e. cc) n x
-  by_step (Ok NeedMore) h n x = subst Taken (sym x.1) (record {
-    answers = record { same = ap (λ (r : Reading). r.place) h.0; waits = h.1; lives = h.2; rests = x.0 };
-    keeps = record { limit = ap (λ (r : Reading). r.limit) h.0; dead = λ dead. subst IsDeadIfShut (sym h.0) dead };
-    less = λ m. absurd (waiting_more m);
-  })
-  by_step (Ok Dead) h n x = subst Taken (sym x.1) (record {
-    answers = (refl, inr (inr (record { shut = h.1; rests = x.0; answer_is = refl })));
-    keeps = record { limit = ap (λ (r : Reading). r.limit) h.0; dead = λ dead. ends_dead mid (shut_reading mid) refl };
-    less = λ m. absurd (closed_more m);
-  })
-  by_step (Err lack) h n x = subst Taken (sym x.is)
-      (lack_taken x.how h.0 (record { sent = x.sent; some = h.1; stays = x.stays; sends = x.sends; cause = λ e. x.cause (was_cut x.how e) }))
-
-  pub takes_next : (step : Result Step AllocError) → Given reading mid step → (n : Next) → AnswersStep config moment old new step n
+  pub takes_lack : (how : Answered) → mid ≡ reading → RunsOut reading.place old new (answer_after how) → (n : Next) → n ≡ next_behind how true
       → (now : Reading) → now ≡ reading_behind mid n → TakesNext config reading now moment old new n
-  takes_next step h n x now e = subst (λ (r : Reading). TakesNext config reading r moment old new n) (sym e) (by_step step h n x)
+  takes_lack how same o n e now read = as_read n now read
+      (subst Taken (sym e) (subst (λ r. TakesNext config reading r moment old new (next_behind how true)) (sym (reads_last mid how)) (ends_out how same o)))
 
--- what is still to be sent is what it asks for
-pub begins_first : (config : Config) (reading mid : Reading) (moment : ℕ) (old new : Condition) (step : Result Step AllocError) → Given reading mid step
-    → (r : Rest) → BeginsStep config moment old new step r → BeginsFirst config reading moment old new r
-begins_first config reading mid moment old new (Ok Continue100) h r b = absurd b
-begins_first config reading mid moment old new (Ok (Message m is_last)) h r b = (Request m, mid.place, h.0.first, b)
-begins_first config reading mid moment old new (Ok (Refused refusal head_only)) h r b = (Fault refusal head_only, mid.place, h.first, b)
-begins_first config reading mid moment old new (Ok NeedMore) h r b = absurd b
-begins_first config reading mid moment old new (Ok Dead) h r b = absurd b
-begins_first config reading mid moment old new (Err lack) h r b = absurd b
+-- nothing is complete, or nothing is read any more
+module _ (config : Config) (reading mid : Reading) (moment : ℕ) (old : Outside) (same : mid ≡ reading) where
+  keeps_same : KeepsIntake reading mid
+  keeps_same = record { limit = ap (λ (r : Reading). r.limit) same; dead = λ dead. subst IsDeadIfShut (sym same) dead }
 
-pub ends_as_asked : (reading mid : Reading) (step : Result Step AllocError) → Given reading mid step → EndsAsAsked step
-ends_as_asked reading mid (Ok Continue100) h = tt
-ends_as_asked reading mid (Ok (Message m is_last)) h = h.1
-ends_as_asked reading mid (Ok (Refused refusal head_only)) h = tt
-ends_as_asked reading mid (Ok NeedMore) h = tt
-ends_as_asked reading mid (Ok Dead) h = tt
-ends_as_asked reading mid (Err lack) h = tt
+  pub takes_waiting : Waits reading.limit reading.place → reading.is_dead ≡ false → TakesNext config reading mid moment old old next.Waiting
+  takes_waiting w lives = record {
+    answers = record { same = ap (λ (r : Reading). r.place) same; waits = w; lives = lives; rests = rests_same old };
+    keeps = keeps_same;
+    less = λ m. absurd (waiting_more m);
+  }
+
+  pub takes_dead : reading.place ≡ Shut → TakesNext config reading mid moment old old next.Closed
+  takes_dead shut = record {
+    answers = (ap (λ (r : Reading). r.place) same ∙ shut, inr (inr (record { shut = shut; rests = rests_same old; answer_is = refl })));
+    keeps = keeps_same;
+    less = λ m. absurd (closed_more m);
+  }
 
 -- a connection has ended behind its last answer
 pub arrived_last : (how : Answered) → arrived_after (next_behind how true) ≡ answer_after how
 arrived_last Sent = refl
 arrived_last GaveUp = refl
 arrived_last CutShort = refl
-
--- the fixed reply for lack of memory, over a store that nothing was asked of
-pub answers_lack : (taken takes : Option (List ℕ)) (failures after : ℕ) (store : Condition) (how : Answered) → SendsOver taken takes failures after out_of_memory how
-    → (n : Next) → n ≡ next_behind how true → AnswersLack (outside taken failures store) (outside takes after store) n
-answers_lack taken takes failures after store how a n e = record {
-  how = how;
-  sent = a.0;
-  stays = record { passes = passes_at taken takes failures after store a.0 a.1; state = λ s h. h; leaves = leaves_same store };
-  sends = sends_up_to out_of_memory a.0 how a.2;
-  cause = a.3;
-  is = e;
-}
 
 -- nothing more was sent
 served_stays : {config : Config} {came : Arrival} {old mid new : Outside} {at : Place} → ServedSoFar config came old mid at → Rests mid new

@@ -1,21 +1,16 @@
 -- The next item of an intake, answered.
-use Rattle.std.specs.Prelude.{◌≡◌, ◌⊎◌, ◌<◌, ℕ, Bool, true, false, List, [], Option, Result, Ok, Err}
-use Rattle.std.specs.declared.alloc.AllocError.{AllocError}
+use Rattle.std.specs.Prelude.{◌≡◌, ◌⊎◌, ◌<◌, ℕ, Bool, true, false, List, [], Option}
 use Rattle.std.specs.Io.KnownBytes.{Appends}
 use Rattle.dep_types.specs.State.{State}
 use Rattle.dep_types.specs.Writing.{HasRisen}
 use Rattle.dep_types.specs.declared.config.Config.{Config}
 use Rattle.dep_types.specs.Conditions.{Condition, Represents}
 use Rattle.dep_message.specs.Places.{Place, Shut, Reading, shut_reading, left_to_read, IsOpen, HasBytes}
-use Rattle.dep_message.specs.Heads.{closes}
-use Rattle.dep_message.specs.Stream.{Item, Continue, Fault, Request, FirstAt, Waits}
-use Rattle.dep_message.specs.declared.intake.Step.{Step}
-use Rattle.dep_message.specs.declared.intake.Step.TheVariants.{Continue100, Message, Refused, NeedMore, Dead}
+use Rattle.dep_message.specs.Stream.{Item, FirstAt, Waits}
 use Rattle.dep_exchange.specs.Machine.{SendsUpTo, out_of_memory}
 use Rattle.dep_exchange.specs.Sending.{Outside, Passes}
 use Rattle.dep_exchange.specs.Shut.{LeavesNoMore}
-use Rattle.dep_exchange.specs.Serving.{Answers, BeginsSource, KeepsIntake, answer_after}
-use Rattle.dep_exchange.specs.declared.rest.Rest.{Rest}
+use Rattle.dep_exchange.specs.Serving.{Answers, KeepsIntake, answer_after}
 use Rattle.dep_exchange.specs.declared.arrived.Arrived.{Arrived}
 use Rattle.dep_exchange.specs.declared.arrived.Arrived.TheVariants as came
 use Rattle.dep_exchange.specs.declared.next.Next.{Next}
@@ -128,53 +123,3 @@ reading_behind reading Waiting = reading
 reading_behind reading Closed = shut_reading reading
 reading_behind reading Cut = shut_reading reading
 reading_behind reading NoSuch = reading
-
--- an item was answered, and this comes after it
-pub record AnswersItem (config : Config) (item : Item) (moment : ℕ) (old new : Outside)
-    (is_last : Bool) (n : Next) : Type 0 where
-  pub how : Answered
-  pub answers : Answers config old new item moment how
-  pub is : n ≡ next_behind how is_last
-
--- memory ran out: the fixed reply for it was sent, and nothing was asked of the store
-pub record AnswersLack (old new : Outside) (n : Next) : Type 0 where
-  pub how : Answered
-  pub sent : List ℕ
-  pub stays : Stays old new sent
-  pub sends : SendsUpTo out_of_memory sent (answer_after how)
-  pub cause : how ≡ CutShort → HasRisen old.failures new.failures
-  pub is : n ≡ next_behind how true
-
--- what an intake gave was answered
-abbrev pub AnswersStep : Config → (moment : ℕ) → (old new : Outside) → Result Step AllocError → Next
-    → Type 0
-AnswersStep config moment old new (Ok Continue100) n =
-    AnswersItem config Continue moment old new false n
-AnswersStep config moment old new (Ok (Message m is_last)) n =
-    AnswersItem config (Request m) moment old new is_last n
-AnswersStep config moment old new (Ok (Refused refusal head_only)) n =
-    AnswersItem config (Fault refusal head_only) moment old new true n
-AnswersStep config moment old new (Ok NeedMore) n = Rests old new × (n ≡ Waiting)
-AnswersStep config moment old new (Ok Dead) n = Rests old new × (n ≡ Closed)
-AnswersStep config moment old new (Err lack) n = AnswersLack old new n
-
--- what is still to be sent is what the item asks for that it gave
-abbrev pub BeginsStep : Config → (moment : ℕ) → (old new : Condition) → Result Step AllocError → Rest
-    → Type 0
-BeginsStep config moment old new (Ok Continue100) r = ⊥
-BeginsStep config moment old new (Ok (Message m is_last)) r =
-    BeginsSource config (Request m) moment old new r
-BeginsStep config moment old new (Ok (Refused refusal head_only)) r =
-    BeginsSource config (Fault refusal head_only) moment old new r
-BeginsStep config moment old new (Ok NeedMore) r = ⊥
-BeginsStep config moment old new (Ok Dead) r = ⊥
-BeginsStep config moment old new (Err lack) r = ⊥
-
--- the connection is closed after the reply where the head asks for it
-abbrev pub EndsAsAsked : Result Step AllocError → Type 0
-EndsAsAsked (Ok Continue100) = Unit {0}
-EndsAsAsked (Ok (Message m is_last)) = is_last ≡ closes m.head
-EndsAsAsked (Ok (Refused refusal head_only)) = Unit {0}
-EndsAsAsked (Ok NeedMore) = Unit {0}
-EndsAsAsked (Ok Dead) = Unit {0}
-EndsAsAsked (Err lack) = Unit {0}

@@ -3,7 +3,7 @@ ghost use Rattle.std.specs.Prelude.{◌≡◌, ◌≢◌, None, IfSome};
 ghost use Rattle.dep_exchange.specs.Sending.{outside_of};
 ghost use Rattle.dep_exchange.specs.Serving.{BeginsFirst, ServesOver, KeepsIntake, arrival_with};
 ghost use Rattle.dep_exchange.specs.Owing.{Owing};
-ghost use Rattle.dep_exchange.specs.Nexts.{AnswersStep, BeginsStep, EndsAsAsked, TakesNext, ReportsLackOfMemory, arrived_after, next_behind, reading_behind};
+ghost use Rattle.dep_exchange.specs.Nexts.{TakesNext, ReportsLackOfMemory, arrived_after, next_behind, reading_behind};
 
 use crate::access_log::{AccessLog, NoLog};
 use crate::archive::Archive;
@@ -89,33 +89,11 @@ pub fn take_next<A: Archive, O: Outlet, L: AccessLog>(
         intake.old context.now.moment (A.condition store.old) (A.condition store.new)) }
     ensures at_once { context.now.contents ≡ Contents.AtOnce → result.1 ≡ None }
 {
-    let step = intake.next();
-    let (next, rest) = answer_step(context, store, step, out, log);
-    shut_behind(intake, next);
-    (next, rest)
-}
-
-// Answers what an intake gives. An `Err` of it is lack of memory, for which the fixed reply is sent.
-fn answer_step<A: Archive, O: Outlet, L: AccessLog>(
-    context: &Context<'_>,
-    store: &mut A,
-    step: Result<Step, AllocError>,
-    out: &mut O,
-    log: &mut L,
-) -> (Next, Option<Rest>)
-    requires { EndsAsAsked step }
-    ensures owing { Owing O.Outlet out.old out.new (A.condition store.new) result.1 (λ new.
-        AnswersStep context.now.site.now context.now.moment
-        (outside_of O.Outlet out.old (A.condition store.old)) new step result.0) }
-    ensures begins { IfSome result.1 (BeginsStep context.now.site.now
-        context.now.moment (A.condition store.old) (A.condition store.new) step) }
-    ensures at_once { context.now.contents ≡ Contents.AtOnce → result.1 ≡ None }
-{
-    match step {
-        Err(AllocError) => (
-            next_after(send_fault(StoreFault::Memory, out, log), true),
-            None,
-        ),
+    match intake.next() {
+        Err(AllocError) => {
+            let answer = send_fault(StoreFault::Memory, out, log);
+            (next_after(intake, answer, true), None)
+        }
         Ok(Step::NeedMore) => (Next::Waiting, None),
         Ok(Step::Dead) => (Next::Closed, None),
         Ok(Step::Refused(refusal, is_head_only)) => {
@@ -125,36 +103,33 @@ fn answer_step<A: Archive, O: Outlet, L: AccessLog>(
             };
             let step = step_fault(context, store, fault);
             let (answer, rest) = send_step(store, step, context.contents, out, log);
-            (next_after(answer, true), rest)
+            (next_after(intake, answer, true), rest)
         }
-        Ok(Step::Continue100) => (next_after(answer_continue(store, out), false), None),
+        Ok(Step::Continue100) => {
+            let answer = answer_continue(store, out);
+            (next_after(intake, answer, false), None)
+        }
         Ok(Step::Message(message, is_last)) => {
             let step = step_message(context, store, message, is_last, log);
             let (answer, rest) = send_step(store, step, context.contents, out, log);
-            (next_after(answer, is_last), rest)
+            (next_after(intake, answer, is_last), rest)
         }
     }
 }
 
-// What comes after an item. Another follows where the whole reply was sent, and the item isn't the last.
-fn next_after(answer: Answered, is_last: bool) -> Next
-    ensures { result ≡ next_behind answer is_last }
+// What comes after an item. Another follows where the whole reply was sent, and the item isn't the last; else nothing is
+// read any more.
+fn next_after(intake: &mut Intake, answer: Answered, is_last: bool) -> Next
+    ensures next { result ≡ next_behind answer is_last }
+    ensures read { intake.new ≡ reading_behind intake.old result }
 {
-    match answer {
-        Answered::Sent if !is_last => Next::More,
+    let next = match answer {
+        Answered::Sent if !is_last => return Next::More,
         Answered::CutShort => Next::Cut,
         _ => Next::Closed,
-    }
-}
-
-// Where the connection ends, nothing is read any more.
-fn shut_behind(intake: &mut Intake, next: Next)
-    ensures { intake.new ≡ reading_behind intake.old next }
-{
-    match next {
-        Next::Closed | Next::Cut => intake.shut(),
-        _ => {}
-    }
+    };
+    intake.shut();
+    next
 }
 
 /// Ends a connection for lack of memory: the fixed reply for it is sent, and nothing is read any more.
@@ -163,6 +138,5 @@ pub fn give_up<O: Outlet, L: AccessLog>(intake: &mut Intake, out: &mut O, log: &
         (O.failures out.old) (O.failures out.new) intake.old intake.new result }
 {
     let answer = send_fault(StoreFault::Memory, out, log);
-    intake.shut();
-    arrived(next_after(answer, true))
+    arrived(next_after(intake, answer, true))
 }

@@ -7,8 +7,8 @@ ghost use Rattle.dep_message.specs.Heads.{closes};
 ghost use Rattle.dep_message.specs.Stream.{Fault, Continue, Request};
 ghost use Rattle.dep_answers.specs.Performing.{IsReady};
 ghost use Rattle.dep_answers.specs.Steps.{operation_step, refused_step};
-ghost use Rattle.dep_exchange.specs.Archives.{TriesTo, Always, MakesStep};
-ghost use Rattle.dep_exchange.specs.Machine.{operation_of, message_step};
+ghost use Rattle.dep_exchange.specs.Archives.{Always, MakesStep};
+ghost use Rattle.dep_exchange.specs.Machine.{operation_of};
 ghost use Rattle.dep_exchange.specs.Making.{MakesItem};
 ghost use Rattle.dep_exchange.specs.Sending.{outside_of};
 ghost use Rattle.dep_exchange.specs.Serving.{Answers};
@@ -49,11 +49,34 @@ pub(crate) fn step_message<A: Archive, L: AccessLog>(
 {
     let length = message.content.as_slice().len() as u64;
     log.request(message.head.method(), message.head.path(), length);
-    match store.tick(context.site.service().config(), context.moment) {
-        Ok(clock) => answer_routed(context.site, store, message, is_last, clock),
+    let site = context.site;
+    let clock = match store.tick(site.service().config(), context.moment) {
+        Ok(clock) => clock,
         Err(fault) => {
             drop(message);
-            Err(fault)
+            return Err(fault);
+        }
+    };
+    let is_head_only = is_without_body(&message.head);
+    let mut message = message;
+    let path = message.head.take_path();
+    match site.routes.route(message.head.method(), path) {
+        Routed::To(target) => perform_at(site, store, message, target, is_last),
+        Routed::NotFound => {
+            drop(message);
+            let why = StreamRefusal {
+                refusal: Refusal::NotFound,
+                is_head_only,
+            };
+            refuse(site.alloc(), clock, why, None, is_last)
+        }
+        Routed::NotAllowed(methods) => {
+            drop(message);
+            let why = StreamRefusal {
+                refusal: Refusal::MethodNotAllowed,
+                is_head_only,
+            };
+            refuse(site.alloc(), clock, why, Some(methods.as_str()), is_last)
         }
     }
 }
@@ -81,43 +104,6 @@ pub(crate) fn step_fault<A: Archive>(
     match store.tick(context.site.service().config(), context.moment) {
         Ok(clock) => refuse(context.site.alloc(), clock, fault, None, true),
         Err(store_fault) => Err(store_fault),
-    }
-}
-
-// What is replied to a message, once the clock has gone on and is this one.
-fn answer_routed<A: Archive>(
-    site: &Site,
-    store: &mut A,
-    message: Message,
-    is_last: bool,
-    clock: Moment,
-) -> Result<Performed, StoreFault>
-    requires { is_last ≡ closes message.head }
-    ensures { TriesTo (A.condition store.old) (A.condition store.new) Always
-        (λ s p. clock ≡ s.clock → IsReady (message_step site.now s message) p)
-        (λ s. (message_step site.now s message).state) result }
-{
-    let is_head_only = is_without_body(&message.head);
-    let mut message = message;
-    let path = message.head.take_path();
-    match site.routes.route(message.head.method(), path) {
-        Routed::To(target) => perform_at(site, store, message, target, is_last),
-        Routed::NotFound => {
-            drop(message);
-            let why = StreamRefusal {
-                refusal: Refusal::NotFound,
-                is_head_only,
-            };
-            refuse(site.alloc(), clock, why, None, is_last)
-        }
-        Routed::NotAllowed(methods) => {
-            drop(message);
-            let why = StreamRefusal {
-                refusal: Refusal::MethodNotAllowed,
-                is_head_only,
-            };
-            refuse(site.alloc(), clock, why, Some(methods.as_str()), is_last)
-        }
     }
 }
 
