@@ -15,7 +15,7 @@ use Rattle.dep_answers.specs.Steps.{sent_by}
 use Rattle.dep_answers.specs.declared.performed.Performed.{Performed}
 use Rattle.dep_types.specs.Conditions.{Condition, Represents, HasCleanDisk}
 use Rattle.dep_exchange.specs.Machine.{step, replies, state_after, continue_line, Fails, Serves, given_up, cut_short, serves_all, step_fails, gives_up, answer_at_place}
-use Rattle.dep_exchange.specs.Making.{GivesUp, IsStepped, MakesItem}
+use Rattle.dep_exchange.specs.Making.{GivesUp, NeedsStep, MakesItem}
 use Rattle.dep_exchange.specs.Causes.{IsCutInContent}
 use Rattle.dep_exchange.specs.Sending.{IsReplySent, SendsOver, SendsReply, SendsReady, Outside, Passes, SendsStep, fault_reply, outside}
 use Rattle.dep_exchange.specs.Serving.{Arrival, IsDeadIfShut, FailsFrom, IsAnsweredBy, IsFixedSent, IsAnsweredShut, IsStill, ReadsWith, Answers, ServedSoFar, ServesFrom, ServesOver, answer_after}
@@ -170,7 +170,7 @@ made_from config s item moment sent old mid new CutShort e h = record {
 }
 
 -- over an archive that was shut, it is sent the fixed reply
-sent_fixed : (item : Item) → IsStepped item → (sent : List ℕ) (answer : Answered) → IsFixedSent sent answer → IsAnsweredShut item sent answer
+sent_fixed : (item : Item) → NeedsStep item → (sent : List ℕ) (answer : Answered) → IsFixedSent sent answer → IsAnsweredShut item sent answer
 sent_fixed (Fault r head_only) stepped sent answer h = h
 sent_fixed Continue stepped sent answer h = absurd stepped
 sent_fixed (Request m) stepped sent answer h = h

@@ -26,7 +26,7 @@ use Rattle.dep_answers.specs.declared.performed.Performed.{Performed}
 use Rattle.dep_types.specs.Conditions.{Condition, Represents, HasCleanDisk}
 use Rattle.dep_exchange.specs.Archives.{TriesTo, MakesStep, Reports, Ticks, FailsIfShut, Always}
 use Rattle.dep_exchange.specs.Machine.{operation_of, routed_step, message_step, starting_state, step}
-use Rattle.dep_exchange.specs.Making.{IsMade, IsStepped, MakesItem}
+use Rattle.dep_exchange.specs.Making.{IsMade, NeedsStep, MakesItem}
 use Rattle.dep_exchange.proofs.Leaving.{Settles, stays_as, leaves_wider}
 
 -- a refusal at a clock
@@ -146,13 +146,13 @@ asked_same head left method path m rest p = λ i. target ((m ∙ ap (λ (h : Hea
 -- ---- the clock goes on, and then an item is stepped
 
 -- the state that a step begins with is the tick's
-starts : (config : Config) (item : Item) → IsStepped item → (s : State) (moment : ℕ) → starting_state config s item moment ≡ tick config s moment
+starts : (config : Config) (item : Item) → NeedsStep item → (s : State) (moment : ℕ) → starting_state config s item moment ≡ tick config s moment
 starts config (Fault r head_only) stepped s moment = refl
 starts config Continue stepped s moment = absurd stepped
 starts config (Request m) stepped s moment = refl
 
 -- the clock couldn't go on
-pub never_ticked : (config : Config) (item : Item) (moment : ℕ) (old new : Condition) (fault : StoreFault) → IsStepped item → Ticks old new config moment (Err fault)
+pub never_ticked : (config : Config) (item : Item) (moment : ℕ) (old new : Condition) (fault : StoreFault) → NeedsStep item → Ticks old new config moment (Err fault)
     → FailsIfShut {A = ℕ} old new (Err fault) → MakesItem config item moment old new (Err fault)
 never_ticked config item moment old new fault stepped ticks fails = record {
   stepped = stepped;

@@ -29,15 +29,15 @@ FailsShut old new (Ok p) = ⊥
 FailsShut old new (Err fault) = LeavesNoMore old new
 
 -- the archive is asked for it: only where a client is told to go on it isn't
-abbrev pub IsStepped : Item → Type 0
-IsStepped (Fault r head_only) = Unit {0}
-IsStepped Continue = ⊥
-IsStepped (Request m) = Unit {0}
+abbrev pub NeedsStep : Item → Type 0
+NeedsStep (Fault r head_only) = Unit {0}
+NeedsStep Continue = ⊥
+NeedsStep (Request m) = Unit {0}
 
 -- The step of an item is made, from whatever state the archive represented.
 pub record MakesItem (config : Config) (item : Item) (moment : ℕ) (old new : Condition)
     (result : Result Performed StoreFault) : Type 0 where
-  pub stepped : IsStepped item
+  pub stepped : NeedsStep item
   pub makes : HasCleanDisk new → (s : State) → Represents old s → IsMade config s item moment new result
   pub honest : HasCleanDisk new → HasCleanDisk old
   pub was_open : IsTrue new.is_open → IsTrue old.is_open

@@ -4,7 +4,7 @@ use Rattle.std.specs.Io.KnownBytes.{Appends}
 use Rattle.dep_types.specs.State.{State}
 use Rattle.dep_types.specs.Writing.{HasRisen}
 use Rattle.dep_types.specs.declared.config.Config.{Config}
-use Rattle.dep_types.specs.Conditions.{Condition, Represents}
+use Rattle.dep_types.specs.Conditions.{Represents}
 use Rattle.dep_message.specs.Places.{Place, Shut, Reading, shut_reading, left_to_read, IsOpen, HasBytes}
 use Rattle.dep_message.specs.Stream.{Item, FirstAt, Waits}
 use Rattle.dep_exchange.specs.Machine.{SendsUpTo, out_of_memory}

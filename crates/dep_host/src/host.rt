@@ -44,7 +44,7 @@ impl<A: Archive, R: Source + Drop, K: Sink + Drop, S: Spool + Drop> Host<A, R, K
     ghost use Rattle.dep_exchange.specs.ArchiveCalls.{WorkedAhead, Runs};
     ghost use Rattle.dep_hub.specs.WorkingAhead.{RestsAhead};
     ghost use Rattle.dep_host.specs.Actions.{HostAction, IsEmpty, position, slot_at, unfinished_of, unfinished_in};
-    ghost use Rattle.dep_host.specs.Hosting.{Steps, ServesSlot, Closed, GoesRound, EvictsLargest, HostStays, HasTime, MayGo, IsReadAt, farewell, IsVacant, HasNothingToDo};
+    ghost use Rattle.dep_host.specs.Hosting.{Steps, ServesSlot, Closed, GoesRound, EvictsLargest, HostStays, HasTime, MayGo, farewell, IsVacant, HasNothingToDo};
     ghost use Rattle.dep_host.specs.Coming.{origin, slots_from};
     ghost use Rattle.dep_host.specs.Rounds.{is_overdue};
     ghost use Rattle.dep_slot.specs.Causes.{causes_of};

@@ -6,9 +6,9 @@ ghost use Rattle.dep_decisions.specs.Kinds.{content_kind};
 ghost use Rattle.dep_decisions.specs.Purposes.{kind_for};
 ghost use Rattle.dep_operations.specs.Views.{file_in, object_in, path_in, segment_in, touched_by, uploads_looked_up, uploads_named};
 
-use dep_operations::{SegmentId, Touched};
 use dep_decisions::{Operation, Purpose};
 use dep_docs_in::{DocFault, Pointed, Reference, read_references};
+use dep_operations::{SegmentId, Touched};
 use dep_types::{Config, List, Octets, Resource};
 use std::alloc::{AllocError, Global};
 
