@@ -55,12 +55,12 @@ module _ (s : State) (us : List ℕ) (views : List UploadView) (u : ℕ) (behind
       ap (λ o. first_of (o ∷ each (segments_refusal (in_state s)) us ∷ [])) there
 
   -- the next lacks a segment
-  pub left_lacking : (missing : Option Refusal) (r : Refusal) → upload_refusal (in_state s) u ≡ None → segments_refusal (in_state s) u ≡ Some r
-      → missing ≡ each (upload_refusal (in_state s)) behind → uploads_refusal (in_state s) us ≡ Some (unwrap_or missing r)
-  left_lacking missing r there e is =
-      let first = so_far.there ∙ each_passed (upload_refusal (in_state s)) u behind there ∙ sym is in
+  pub left_lacking : (r : Refusal) → upload_refusal (in_state s) u ≡ None → segments_refusal (in_state s) u ≡ Some r
+      → uploads_refusal (in_state s) us ≡ Some (unwrap_or (each (upload_refusal (in_state s)) behind) r)
+  left_lacking r there e =
+      let first = so_far.there ∙ each_passed (upload_refusal (in_state s)) u behind there in
       let second = so_far.whole ∙ each_refused (segments_refusal (in_state s)) u behind r e in
-      (λ i. first_of (first i ∷ second i ∷ [])) ∙ both missing r
+      (λ i. first_of (first i ∷ second i ∷ [])) ∙ both (each (upload_refusal (in_state s)) behind) r
 
   -- the next is there, and lacks none
   pub left_more : (state : UploadState) (now : List UploadView) → upload_refusal (in_state s) u ≡ None → segments_refusal (in_state s) u ≡ None → state ≡ state_seen true s u

@@ -41,6 +41,10 @@ module _ {X Y Z : Type 0} (f : X → Y) (g : Y → Z) (z : Z) where
   some_shown None v e = absurd (cc)
   some_shown (Some x) v e = let same : v ≡ f x = cc in ap g same
 
+  pub none_shown : (o : Option X) → None ≡ option_map f o → z ≡ option_map_or (λ x. g (f x)) o z
+  none_shown None e = refl
+  none_shown (Some x) e = absurd (cc)
+
 module _ (s : State) (u : ℕ) where
   at : (o : Option Upload) → finmap.get s.uploads u ≡ o → shown_at s (read_set.Upload u) ≡ option_map_or (λ it. shown.Upload (upload_row u it) (finmap.keys it.segments)) o shown.Nothing
   at o is = ap (λ x. option_map_or (λ (it : Upload). shown.Upload (upload_row u it) (finmap.keys it.segments)) x shown.Nothing) is

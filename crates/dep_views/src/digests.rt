@@ -5,10 +5,9 @@ ghost use Rattle.dep_types.specs.Sound.{IsSound};
 ghost use Rattle.dep_operations.specs.Views.{upload_state};
 ghost use Rattle.dep_row_maps.specs.Clauses.{MayFind, MayReadOver};
 ghost use Rattle.dep_staging.specs.HashedAhead.{AreRunning, Hashes};
-ghost use Rattle.dep_views.specs.Seen.{GetsDigests, IsUndigested, ReportsDigests, hashed_views, state_seen};
+ghost use Rattle.dep_views.specs.Seen.{GetsDigests, IsUndigested, hashed_views, state_seen};
 
 use crate::view::LoadedView;
-use dep_fixity::Digests;
 use dep_operations::{LiveUpload, UploadState, UploadView};
 use dep_staging::{RunningHashes, hash_some, hash_upload};
 use dep_tables::Statements;
@@ -18,23 +17,6 @@ use std::alloc::Global;
 /// Of so many uploads that a document names all is hashed before it is answered: of half as many as
 /// it is kept how far they were hashed.
 const MOST_HASHED: usize = 1_024;
-
-// The digests of an upload that is there, where no segment is missing.
-fn digests_if_whole<T: Statements>(
-    tx: &mut T,
-    running: &mut RunningHashes,
-    live: &LiveUpload,
-) -> Result<Option<Digests>, StoreFault>
-    ensures map { MayFind T.lenders T.state tx.old tx.new result
-        (λ s. IsTrue (T.state tx.old).is_open → Hashes s running.old running.new
-        (ReportsDigests s live.now result)) }
-{
-    if !live.is_whole {
-        return Ok(None);
-    }
-    let digests = hash_upload(tx, running, &live.row)?;
-    Ok(Some(digests))
-}
 
 // What became of the number of an upload, which is hashed where it is whole. No row is read.
 fn hash_state<T: Statements>(
@@ -49,11 +31,18 @@ fn hash_state<T: Statements>(
 {
     match state {
         UploadState::Live(live) => {
-            let digests = digests_if_whole(tx, running, live)?;
+            if !live.is_whole {
+                return Ok(UploadState::Live(LiveUpload {
+                    row: live.row,
+                    is_whole: live.is_whole,
+                    digests: None,
+                }));
+            }
+            let digests = hash_upload(tx, running, &live.row)?;
             Ok(UploadState::Live(LiveUpload {
                 row: live.row,
                 is_whole: live.is_whole,
-                digests,
+                digests: Some(digests),
             }))
         }
         UploadState::TimedOut => Ok(UploadState::TimedOut),

@@ -2,11 +2,9 @@
 
 ghost use Rattle.std.specs.Prelude.{◌≡◌, true, IfOk, IsTrue};
 ghost use Rattle.dep_types.specs.Sound.{IsSound};
-ghost use Rattle.dep_decisions.specs.LookUps.{in_state};
-ghost use Rattle.dep_decisions.specs.Rules.{each, upload_refusal};
 ghost use Rattle.dep_row_maps.specs.Clauses.{Finds, MayFind};
 ghost use Rattle.dep_staging.specs.HashedAhead.{AreRunning};
-ghost use Rattle.dep_views.specs.Named.{AreNamed};
+ghost use Rattle.dep_views.specs.Named.{AreNamed, refused_lacking};
 ghost use Rattle.dep_views.specs.Seen.{state_seen};
 
 use crate::segments::is_whole;
@@ -51,21 +49,26 @@ fn load_state<T: Statements>(
     }
 }
 
-// What the first of these uploads is refused for that isn't there. No segment is read, and nothing behind it.
-fn first_missing<T: Statements>(tx: &mut T, uploads: &[u64]) -> Result<Option<Refusal>, StoreFault>
+// Refused for the first of these uploads that isn't there, or else for what another one lacks. No segment is read, and
+// nothing behind it.
+fn refuse_lacking<T: Statements>(
+    tx: &mut T,
+    uploads: &[u64],
+    lacking: Refusal,
+) -> Result<NamedUploads, StoreFault>
     ensures map { MayFind T.lenders T.state tx.old tx.new result
         (λ s. IsTrue (T.state tx.old).is_open
-        → IfOk result (λ refusal. refusal ≡ each (upload_refusal (in_state s)) uploads.now)) }
+        → IfOk result (λ named. named ≡ refused_lacking s uploads.now lacking)) }
 {
     let mut rest = uploads;
     while let Some((upload, behind)) = rest.split_first() {
         let state = find_state(tx, *upload)?;
         if let Some(refusal) = state_rule(&state) {
-            return Ok(Some(refusal));
+            return Ok(NamedUploads::Refused(refusal));
         }
         rest = behind;
     }
-    Ok(None)
+    Ok(NamedUploads::Refused(lacking))
 }
 
 /// Looks up the uploads of these numbers, which references name, in their order: up to the first that
@@ -89,8 +92,7 @@ pub fn load_named<T: Statements>(
             return Ok(NamedUploads::Refused(refusal));
         }
         if let Some(refusal) = segments_rule(&state) {
-            let missing = first_missing(tx, behind)?;
-            return Ok(NamedUploads::Refused(missing.unwrap_or(refusal)));
+            return refuse_lacking(tx, behind, refusal);
         }
         let view = UploadView {
             upload: *upload,

@@ -7,6 +7,7 @@ use Rattle.dep_files.proofs.Results.{ok_both}
 use Rattle.dep_staging.proofs.Moved.{made}
 use Rattle.dep_row_maps.proofs.Changing.{inside_after, tables_after, tables_by, tables_kept}
 use Rattle.dep_row_maps.proofs.Calling.{changes_failed}
+use Rattle.std.proofs.lemmas.Result.{IfOk-from_err}
 use Rattle.dep_staging.proofs.assembling.assemble.Goals as goal
 
 pub returns-clause-does : goal.returns-clause-does
@@ -46,3 +47,12 @@ pub returns-in_err-move_content-clause-does : goal.returns-in_err-move_content-c
 returns-in_err-move_content-clause-does g c =
     changes_failed c.from_residual.ensures.1 (λ s o it file there held whole upload_is row_is its content. tt)
     c.in_err-move_content.ensures.does.stays
+
+pub returns-in_err-forget_upload-clause-free : goal.returns-in_err-forget_upload-clause-free
+returns-in_err-forget_upload-clause-free g c clean inside ours s are = IfOk-from_err c.from_residual-in_err-forget_upload.result _ c.from_residual-in_err-forget_upload.ensures.0
+
+pub returns-in_err-insert_sha512-clause-free : goal.returns-in_err-insert_sha512-clause-free
+returns-in_err-insert_sha512-clause-free g c clean inside ours s are = IfOk-from_err c.from_residual-in_err-insert_sha512.result _ c.from_residual-in_err-insert_sha512.ensures.0
+
+pub returns-in_err-move_content-clause-free : goal.returns-in_err-move_content-clause-free
+returns-in_err-move_content-clause-free g c clean inside ours s are = IfOk-from_err c.from_residual.result _ c.from_residual.ensures.0

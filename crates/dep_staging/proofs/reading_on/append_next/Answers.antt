@@ -1,10 +1,11 @@
 use Rattle.std.proofs.Common.{◌≡◌, ◌+◌, ◌*◌, ◌/◌, ◌∙◌, ap, sym, subst, length, take, drop, arith, unwrap_or, []}
 use Rattle.std.specs.Prelude.{option_map}
 use Rattle.std.proofs.lemmas.Result.{IfOk-weaker}
-use Rattle.dep_tables.proofs.Chains.{reads_ok}
+use Rattle.dep_tables.proofs.Chains.{reads_ok, reads_refused}
 use Rattle.dep_staging.specs.FileBlocks.{part_of}
 use Rattle.dep_staging.specs.NextBytes.{IsAtByte}
 use Rattle.dep_staging.proofs.NextBytes.{block_has, byte_in, grown_by_block, not_grown}
+use Rattle.dep_row_maps.proofs.Calling.{reads_failed}
 use Rattle.dep_staging.proofs.reading_on.append_next.Goals as goal
 
 pub returns-in-Some-2 : goal.returns-in-Some-2
@@ -40,3 +41,14 @@ returns-in-None g c = record {
     keeps = reads_ok c.in_ok-block.ensures.does.keeps;
   };
 }
+
+pub returns-in_default : goal.returns-in_default
+returns-in_default g c = record {
+  does = record {
+    map = λ clean ours s are. tt;
+    keeps = reads_refused g.T.Statements.lenders g.T.Statements.state c.args.tx.now _;
+  };
+}
+
+pub returns-in_err-block : goal.returns-in_err-block
+returns-in_err-block g c = record { does = reads_failed c.from_residual.ensures.1 c.in_err-block.ensures.does.keeps }

@@ -7,6 +7,7 @@ use Rattle.dep_files.proofs.Behind.{behind}
 use Rattle.dep_staging.specs.FileBlocks.{part_of}
 use Rattle.dep_staging.specs.NextBytes.{CountsTo}
 use Rattle.dep_staging.proofs.NextBytes.{sized_by_none}
+use Rattle.dep_row_maps.proofs.Calling.{reads_failed}
 use Rattle.dep_staging.proofs.reading_on.first_size.Goals as goal
 
 pub returns-in-Some : goal.returns-in-Some
@@ -30,3 +31,6 @@ returns-in-None g c = record {
     keeps = reads_ok c.in_ok-last.ensures.does.keeps;
   };
 }
+
+pub returns-in_err-last : goal.returns-in_err-last
+returns-in_err-last g c = record { does = reads_failed c.from_residual.ensures.1 c.in_err-last.ensures.does.keeps }

@@ -1,8 +1,8 @@
 use Rattle.std.proofs.Common.{◌<◌, ◌∙◌, Some, sym, subst, refl, arith}
-use Rattle.std.proofs.lemmas.Result.{IfOk-weaker}
+use Rattle.std.proofs.lemmas.Result.{IfOk-weaker, IfOk-from_err}
 use Rattle.dep_tables.specs.Tables.{Tables}
 use Rattle.dep_tables.specs.declared.owner.BlockOwner.TheVariants as owner
-use Rattle.dep_tables.proofs.Chains.{may_ok, may_read, may_then}
+use Rattle.dep_tables.proofs.Chains.{may_ok, may_read, may_then, may_err}
 use Rattle.dep_files.proofs.Behind.{behind_any}
 use Rattle.dep_files.proofs.FileCalls.{file_is}
 use Rattle.dep_staging.specs.FileBlocks.{part_of}
@@ -50,5 +50,21 @@ returns g c = record {
         is_next its.content c.args.start bytes.items (subst (λ (t : Tables). Fronts t s c.args.file (Some c.in_ok-size.size) c.args.start bytes) late.tables fronts are its.content (some, cut)))
         (c.bytes_by-2.ensures.does.map late.same.0.is_open clean late.ours s late.are);
     keeps = may_then (may_then c.in_ok-first.ensures.does.keeps (may_read c.in_ok-size.ensures.does.keeps)) c.bytes_by-2.ensures.does.keeps;
+  };
+}
+
+pub returns-in_err-first : goal.returns-in_err-first
+returns-in_err-first g c = record {
+  does = record {
+    map = λ is_open clean ours s are. IfOk-from_err c.from_residual.result _ c.from_residual.ensures.0;
+    keeps = may_err c.from_residual.ensures.0 c.in_err-first.ensures.does.keeps;
+  };
+}
+
+pub returns-in_err-size : goal.returns-in_err-size
+returns-in_err-size g c = record {
+  does = record {
+    map = λ is_open clean ours s are. IfOk-from_err c.from_residual-in_err-size.result _ c.from_residual-in_err-size.ensures.0;
+    keeps = may_err c.from_residual-in_err-size.ensures.0 (may_then c.in_ok-first.ensures.does.keeps (may_read c.in_err-size.ensures.does.keeps));
   };
 }

@@ -4,6 +4,7 @@ use Rattle.std.proofs.lemmas.Result.{IfOk-weaker}
 use Rattle.dep_tables.proofs.Chains.{reads_ok}
 use Rattle.dep_staging.specs.FileBlocks.{part_of}
 use Rattle.dep_staging.proofs.NextBytes.{sized_by_last}
+use Rattle.dep_row_maps.proofs.Calling.{reads_failed}
 use Rattle.dep_staging.proofs.reading_on.size_to.Goals as goal
 
 pub returns-in-Some : goal.returns-in-Some
@@ -26,3 +27,6 @@ returns-in-None g c = record {
     keeps = reads_ok c.in_ok-block.ensures.does.keeps;
   };
 }
+
+pub returns-in_err-block : goal.returns-in_err-block
+returns-in_err-block g c = record { does = reads_failed c.from_residual.ensures.1 c.in_err-block.ensures.does.keeps }

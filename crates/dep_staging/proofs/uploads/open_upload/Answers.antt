@@ -8,6 +8,7 @@ use Rattle.dep_tables.proofs.Chains.{clean_before}
 use Rattle.dep_row_maps.proofs.Changing.{changes_ok, changes_then, tables_by, tables_kept}
 use Rattle.dep_staging.proofs.UploadCalls.{none_at, opened}
 use Rattle.dep_row_maps.proofs.Calling.{changes_failed}
+use Rattle.std.proofs.lemmas.Result.{IfOk-from_err}
 use Rattle.dep_staging.proofs.uploads.open_upload.Goals as goal
 
 pub returns-in-Some-clause-does : goal.returns-in-Some-clause-does
@@ -53,3 +54,6 @@ pub returns-in-None-clause-free : goal.returns-in-None-clause-free
 returns-in-None-clause-free g c clean inside ours s are =
     let old = tables_of (g.T.Statements.state c.args.tx.now) in
     none_at old s c.args.row.now.upload are (ap (λ (r : UploadColumns). row_at old.uploads r.upload) (sym c.of_row.ensures) ∙ c.in_ok-insert_upload.ensures.free clean inside ours)
+
+pub returns-in_err-insert_upload-clause-free : goal.returns-in_err-insert_upload-clause-free
+returns-in_err-insert_upload-clause-free g c clean inside ours s are = IfOk-from_err c.from_residual.result _ c.from_residual.ensures.0

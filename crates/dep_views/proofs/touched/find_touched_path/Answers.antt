@@ -5,7 +5,8 @@ use Rattle.dep_types.specs.BagPaths.{tag_paths}
 use Rattle.dep_types.specs.declared.rows.FileRow.{FileRow}
 use Rattle.dep_manifest.specs.Reported.{row_path}
 use Rattle.dep_views.specs.Seen.{file_at_path}
-use Rattle.dep_tables.proofs.Chains.{may_ok}
+use Rattle.std.proofs.lemmas.Result.{IfOk-from_err}
+use Rattle.dep_tables.proofs.Chains.{may_err, may_ok}
 use Rattle.dep_views.proofs.Paths.{path_reported, payload_seen}
 use Rattle.dep_views.proofs.touched.find_touched_path.Goals as goal
 
@@ -27,5 +28,13 @@ returns-in_ok-payload-in-Some-Some g c = record {
         ∙ payload_seen s touched c.in-Some-Some.object.now c.in-Some-Some.path object c.in-Some-Some.is-1 in
         λ i. record { has_path = has i; payload = payload i };
     keeps = may_ok c.in_ok-payload-in-Some-Some.ensures.map.keeps;
+  };
+}
+
+pub returns-in_err-payload-in-Some-Some : goal.returns-in_err-payload-in-Some-Some
+returns-in_err-payload-in-Some-Some g c = record {
+  map = record {
+    found = λ clean inside ours s are sound there. IfOk-from_err c.from_residual.result _ c.from_residual.ensures.0;
+    keeps = may_err c.from_residual.ensures.0 c.in_err-payload-in-Some-Some.ensures.map.keeps;
   };
 }

@@ -6,7 +6,7 @@ use Rattle.dep_decisions.specs.Rules.{each, upload_refusal}
 use Rattle.dep_tables.specs.Tables.{tables_of, IsOurs}
 use Rattle.dep_tables.proofs.Chains.{MayReads}
 use Rattle.dep_row_maps.specs.TablesAre.{TablesAre}
-use Rattle.dep_views.proofs.named.first_missing.Given as goal
+use Rattle.dep_views.proofs.named.refuse_lacking.Given as goal
 
 -- those so far are there
 abbrev pub invariant-loop-upload : goal.invariant-loop-upload
