@@ -10,7 +10,6 @@ use Rattle.dep_types.specs.Rows.{file_row, object_view}
 use Rattle.dep_types.specs.declared.rows.ObjectView.{ObjectView}
 use Rattle.dep_types.specs.Sinks.{PathAndBytes}
 use Rattle.dep_docs_out.specs.Documents.{bag_metadata_document}
-use Rattle.dep_manifest.specs.TagFiles.{bagit_text}
 use Rattle.dep_manifest.specs.Manifest.{digest_by, manifest_of}
 use Rattle.dep_manifest.specs.declared.algorithm.Algorithm.{Algorithm}
 use Rattle.dep_manifest.specs.declared.algorithm.Algorithm.TheVariants.{Sha256, Sha512}
@@ -223,9 +222,6 @@ module _ (path : List ℕ) where
       (placed tag.Metadata _ (placed (tag.TagManifest Sha256) _ (placed (tag.TagManifest Sha512) None (λ file is. absurd (cc))))))))
 
   module _ (n : ℕ) (o : Object) where
-    pub declaration_shown : tag_file_at path ≡ Some tag.Declaration → shown_in_bag n o path ≡ Some (PlainText bagit_text)
-    declaration_shown is = ap (shown_in_bag n o) (its_place tag.Declaration is)
-
     pub manifest_shown : (a : Algorithm) → tag_file_at path ≡ Some (tag.Manifest a) → shown_in_bag n o path ≡ Some (PlainText (manifest_of (digest_by a) (payload o)))
     manifest_shown Sha256 is = ap (shown_in_bag n o) (its_place (tag.Manifest Sha256) is)
     manifest_shown Sha512 is = ap (shown_in_bag n o) (its_place (tag.Manifest Sha512) is)

@@ -17,14 +17,14 @@ use Rattle.dep_bag.specs.declared.part.TagFile.{TagFile}
 use Rattle.dep_bag.specs.declared.part.TagFile.TheVariants as tag
 use Rattle.dep_answers.specs.Answers.{PlainText, ReplyContent, answer}
 use Rattle.dep_answers.specs.Bags.{shown_in_bag}
-use Rattle.dep_answers.specs.Performing.{IsReply, Says}
+use Rattle.dep_answers.specs.Performing.{Says}
 use Rattle.dep_answers.specs.ReadSets.{tag_read_set}
 use Rattle.dep_answers.specs.Reporting.{IsShownByRow, IsTagView, SaysLength, measured_by, view_by}
 use Rattle.dep_answers.specs.declared.performed.Delivery.{Delivery}
 use Rattle.dep_answers.specs.declared.performed.Performed.{Performed}
 use Rattle.dep_answers.specs.declared.read_set.ReadSet.TheVariants as read_set
 use Rattle.dep_answers.proofs.BagLemmas.{manifest_shown, tag_manifest_shown}
-use Rattle.dep_answers.proofs.ShownReplies.{replies_as}
+use Rattle.dep_answers.proofs.ShownReplies.{says_as}
 
 -- each view has the rows of all files
 same_files : (n : ℕ) (o : Object) (file : Option TagFile) (b : Bool) → (view_by n o file b).files ≡ (object_view n o).files
@@ -42,17 +42,17 @@ payload_rows : (n : ℕ) (es : List (ℕ × File))
 payload_rows n [] = refl
 payload_rows n (e ∷ es) = ap (λ (l : List (List ℕ)). payload_path e.0 e.1.name ∷ l) (payload_rows n es)
 
-module _ (s : State) (n : ℕ) (o : Object) (path : List ℕ) (delivery : Delivery) (p : Performed) (a : Algorithm) where
+module _ (s : State) (n : ℕ) (o : Object) (path : List ℕ) (delivery : Delivery) (said : Option Performed) (a : Algorithm) where
   abbrev SaysPath : Type 0
-  SaysPath = Says s (answer 200 (shown_in_bag n o path) None None) delivery (Some p)
+  SaysPath = Says s (answer 200 (shown_in_bag n o path) None None) delivery said
 
-  shown_as : (text : List ℕ) → shown_in_bag n o path ≡ Some (PlainText text) → IsReply s (answer 200 (Some (PlainText text)) None None) delivery p → SaysPath
+  shown_as : (text : List ℕ) → shown_in_bag n o path ≡ Some (PlainText text) → Says s (answer 200 (Some (PlainText text)) None None) delivery said → SaysPath
   shown_as text is says =
-      replies_as s (answer 200 (Some (PlainText text)) None None) (answer 200 (shown_in_bag n o path) None None) delivery p
+      says_as s (answer 200 (Some (PlainText text)) None None) (answer 200 (shown_in_bag n o path) None None) delivery said
       (ap (λ (x : Option ReplyContent). answer 200 x None None) (sym is)) says
 
   pub manifest_measured : (view : ObjectView) → tag_file_at path ≡ Some (tag.Manifest a) → delivery.is_head_only ≡ true → IsTagView path view delivery.is_head_only n o
-      → OfLength a (map row_path view.files) (λ size. SaysLength size delivery p) → SaysPath
+      → OfLength a (map row_path view.files) (λ size. SaysLength size delivery said) → SaysPath
   manifest_measured view at head_only is says =
       let rows : map (λ (file : PathAndBytes). file.0) (payload o) ≡ map row_path view.files =
       payload_rows n (finmap.entries o.files)
@@ -61,7 +61,7 @@ module _ (s : State) (n : ℕ) (o : Object) (path : List ℕ) (delivery : Delive
       shown_as text (manifest_shown path n o a at) (says (payload o) rows head_only s text refl)
 
   pub tag_manifest_measured : (size : ℕ) → tag_file_at path ≡ Some (tag.TagManifest a) → IsShownByRow path delivery.is_head_only n o
-      → ((view : ObjectView) → OfLength a (map (λ file. file.0) (reported_listed view)) (λ length. size ≡ length)) → SaysLength size delivery p → SaysPath
+      → ((view : ObjectView) → OfLength a (map (λ file. file.0) (reported_listed view)) (λ length. size ≡ length)) → SaysLength size delivery said → SaysPath
   tag_manifest_measured size at by reported says =
       let text = manifest_of (digest_by a) (listed_files o) in
       shown_as text (tag_manifest_shown path n o a at)
@@ -70,18 +70,6 @@ module _ (s : State) (n : ℕ) (o : Object) (path : List ℕ) (delivery : Delive
       head_only : (b : Bool) → tag_read_set n (Some (tag.TagManifest a)) b ≡ read_set.ObjectRow n → b ≡ true
       head_only true e = refl
       head_only false e = absurd (cc)
-
--- what the row shows and is no tag manifest is the declaration
-pub declared_by_row : (n : ℕ) (file : Option TagFile) (b : Bool) → tag_read_set n file b ≡ read_set.ObjectRow n → ((a : Algorithm) → file ≡ Some (tag.TagManifest a) → ⊥)
-    → file ≡ Some tag.Declaration
-declared_by_row n (Some tag.Declaration) b e none = refl
-declared_by_row n (Some tag.Information) b e none = absurd (cc)
-declared_by_row n (Some (tag.Manifest Sha256)) b e none = absurd (cc)
-declared_by_row n (Some (tag.Manifest Sha512)) true e none = absurd (cc)
-declared_by_row n (Some (tag.Manifest Sha512)) false e none = absurd (cc)
-declared_by_row n (Some tag.Metadata) b e none = absurd (cc)
-declared_by_row n (Some (tag.TagManifest a)) b e none = absurd (none a refl)
-declared_by_row n None b e none = absurd (cc)
 
 -- what a bare reply says the length of is a manifest of the payload
 pub measured_there : (file : Option TagFile) (b : Bool) (a : Algorithm) → Some a ≡ measured_by file b → (file ≡ Some (tag.Manifest a)) × (b ≡ true)

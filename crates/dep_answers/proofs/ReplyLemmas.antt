@@ -129,7 +129,7 @@ stored_ends row tag delivery p front status = ends_alone (head_by row tag delive
 abbrev length_head : (size : ℕ) → Delivery → ReplyHead
 length_head size delivery = measured_head (media_of (PlainText [])) size None delivery
 
-pub length_ready : (size : ℕ) (delivery : Delivery) (p : Performed) → p.front.items ≡ head_text (length_head size delivery) → p.stored ≡ None → SaysLength size delivery p
+pub length_ready : (size : ℕ) (delivery : Delivery) (p : Performed) → p.front.items ≡ head_text (length_head size delivery) → p.stored ≡ None → SaysLength size delivery (Some p)
 length_ready size delivery p front nothing head_only s text sized =
     text_reply s (answer 200 (Some (PlainText text)) None None) delivery p
     (front

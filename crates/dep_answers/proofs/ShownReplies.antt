@@ -17,6 +17,7 @@ use Rattle.dep_answers.specs.Replies.{answer_to, shown_answer}
 use Rattle.dep_answers.specs.Steps.{is_head}
 use Rattle.dep_answers.specs.ReadSets.{shown_at, read_set_at, read_set_of}
 use Rattle.dep_answers.specs.Reported.{file_answer, bag_answer}
+use Rattle.dep_answers.specs.Reporting.{SaysContent}
 use Rattle.dep_answers.specs.declared.performed.Delivery.{Delivery}
 use Rattle.dep_answers.specs.declared.performed.FileId.{FileId}
 use Rattle.dep_answers.specs.declared.performed.Performed.{Performed}
@@ -43,32 +44,28 @@ pub file_in : (n f : ℕ) (row : FileRow) (o : Option File)
 file_in n f row None e = absurd (cc)
 file_in n f row (Some file) e = (file, (refl, cc e))
 
--- what the reply with a row's content says
-abbrev pub SaysRow : FileRow → Option ℕ → Delivery → Performed → Type 0
-SaysRow row tag delivery p = (s : State) (file : File) → file_at s row.object row.file ≡ Some file
-    → row ≡ file_row row.object row.file file → IsReply s (answer 200 (Some (file_reply row.object row.file file)) tag None) delivery p
-
-pub says_row : (row : FileRow) (tag : Option ℕ) (delivery : Delivery) (p : Performed) → SaysRow row tag delivery p
+-- where a row is that of this file, the reply with the row's content is the file's
+pub says_row : (row : FileRow) (tag : Option ℕ) (delivery : Delivery) (said : Option Performed) → SaysContent row tag delivery said
     → (s : State) (n f : ℕ) (file : File) → file_at s n f ≡ Some file → row ≡ file_row n f file
-    → IsReply s (answer 200 (Some (file_reply n f file)) tag None) delivery p
-says_row row tag delivery p says s n f file there is =
-    replies_as s (answer 200 (Some (file_reply row.object row.file file)) tag None) (answer 200 (Some (file_reply n f file)) tag None) delivery p
+    → Says s (answer 200 (Some (file_reply n f file)) tag None) delivery said
+says_row row tag delivery said says s n f file there is =
+    says_as s (answer 200 (Some (file_reply row.object row.file file)) tag None) (answer 200 (Some (file_reply n f file)) tag None) delivery said
     (ap (λ (r : FileRow). answer 200 (Some (file_reply r.object r.file file)) tag None) is)
     (says s file (ap (λ (r : FileRow). file_at s r.object r.file) is ∙ there)
     (is ∙ ap (λ (r : FileRow). file_row r.object r.file file) (sym is)))
 
-pub file_reply_is : (s : State) (id : FileId) (row : FileRow) (sh : Shown) (delivery : Delivery) (p : Performed)
-    → sh ≡ shown.File row → sh ≡ shown_at s (read_set.File id) → SaysRow row (Some row.tag) delivery p
-    → IsReply s (file_answer s id) delivery p
-file_reply_is s id row sh delivery p is e says =
+pub file_reply_is : (s : State) (id : FileId) (row : FileRow) (sh : Shown) (delivery : Delivery) (said : Option Performed)
+    → sh ≡ shown.File row → sh ≡ shown_at s (read_set.File id) → SaysContent row (Some row.tag) delivery said
+    → Says s (file_answer s id) delivery said
+file_reply_is s id row sh delivery said is e says =
     let found = file_in id.object id.file row (file_at s id.object id.file) (sym is ∙ e) in
     let file : File = found.0 in
     let there : file_at s id.object id.file ≡ Some file = found.1.0 in
     let of : row ≡ file_row id.object id.file file = found.1.1 in
-    replies_as s (answer 200 (Some (file_reply id.object id.file file)) (Some row.tag) None) (file_answer s id) delivery p
+    says_as s (answer 200 (Some (file_reply id.object id.file file)) (Some row.tag) None) (file_answer s id) delivery said
     (ap (λ (r : FileRow). answer 200 (Some (file_reply id.object id.file file)) (Some r.tag) None) of
     ∙ ap (λ (o : Option File). answer 200 (option_map (file_reply id.object id.file) o) (option_map (λ (x : File). x.tag) o) None) (sym there))
-    (says_row row (Some row.tag) delivery p says s id.object id.file file there of)
+    (says_row row (Some row.tag) delivery said says s id.object id.file file there of)
 
 pub no_file : (n f : ℕ) (sh : Shown) (o : Option File) → ((row : FileRow) → sh ≡ shown.File row → ⊥)
     → sh ≡ option_map_or (λ (x : File). shown.File (file_row n f x)) o shown.Nothing → o ≡ None

@@ -16,7 +16,7 @@ use Rattle.dep_bag.specs.declared.part.TagFile.{TagFile}
 use Rattle.dep_bag.specs.declared.part.TagFile.TheVariants as tag
 use Rattle.dep_answers.specs.Answers.{answer, PlainText, file_reply}
 use Rattle.dep_answers.specs.Bags.{shown_in_bag}
-use Rattle.dep_answers.specs.Performing.{IsReply, Says}
+use Rattle.dep_answers.specs.Performing.{Says}
 use Rattle.dep_answers.specs.Replies.{answer_to}
 use Rattle.dep_answers.specs.ReadSets.{files_view, payload_view, shown_at, read_set_of, tag_read_set}
 use Rattle.dep_answers.specs.Reported.{bag_answer}
@@ -69,12 +69,12 @@ abbrev pub IsShownByRow : (path : List ℕ) → (is_head_only : Bool) → ℕ �
 IsShownByRow path is_head_only n o = tag_read_set n (tag_file_at path) is_head_only ≡ ObjectRow n
 
 -- how long a plain text is that has so many bytes, where the reply is a bare one
-abbrev pub SaysLength : (size : ℕ) → Delivery → Performed → Type 0
-SaysLength size delivery p = delivery.is_head_only ≡ true → (s : State) (text : List ℕ) → length text ≡ size
-    → IsReply s (answer 200 (Some (PlainText text)) None None) delivery p
+abbrev pub SaysLength : (size : ℕ) → Delivery → Option Performed → Type 0
+SaysLength size delivery said = delivery.is_head_only ≡ true → (s : State) (text : List ℕ) → length text ≡ size
+    → Says s (answer 200 (Some (PlainText text)) None None) delivery said
 
 -- where this is the row of a file, its content is the reply, perhaps with a tag
-abbrev pub IsContentOf : FileRow → (tag : Option ℕ) → Delivery → Performed → Type 0
-IsContentOf row tag delivery p = (s : State) (file : File)
+abbrev pub SaysContent : FileRow → (tag : Option ℕ) → Delivery → Option Performed → Type 0
+SaysContent row tag delivery said = (s : State) (file : File)
     → file_at s row.object row.file ≡ Some file → row ≡ file_row row.object row.file file
-    → IsReply s (answer 200 (Some (file_reply row.object row.file file)) tag None) delivery p
+    → Says s (answer 200 (Some (file_reply row.object row.file file)) tag None) delivery said

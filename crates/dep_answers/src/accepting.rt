@@ -1,9 +1,7 @@
 //! Replies to requests that are accepted.
-ghost use Rattle.std.specs.Prelude.{◌≡◌, IfOk, IfSome, Some, None};
+ghost use Rattle.std.specs.Prelude.{◌≡◌, IfOk, IfSome};
 ghost use Rattle.dep_types.specs.State.{State};
 ghost use Rattle.dep_types.specs.Sound.{IsSound};
-ghost use Rattle.dep_docs_out.specs.Documents.{service_document};
-ghost use Rattle.dep_answers.specs.Answers.{answer, Document};
 ghost use Rattle.dep_answers.specs.Performing.{HasEnd, Says};
 ghost use Rattle.dep_answers.specs.Replies.{shown_answer};
 ghost use Rattle.dep_answers.specs.Steps.{is_head};
@@ -76,21 +74,16 @@ fn text(
     ensures { IfOk result (λ a. a ≡ reported_text service.now resource.now shown.now) }
 {
     match resource {
-        Resource::Service => service_document(alloc, service),
+        Resource::Service => {
+            let document = service.document().to_vec(alloc)?;
+            Ok(Answer::showing(Status::Ok, ReplyText::document(document)))
+        }
         Resource::Object(_) => status(alloc, service.config(), shown),
         Resource::Metadata(_) => metadata(alloc, service.config(), shown),
         Resource::Upload(_) => upload(alloc, service.config(), shown),
         Resource::BagList(_) => bag_list(alloc, shown),
         _ => Ok(Answer::without_content(Status::Ok)),
     }
-}
-
-fn service_document(alloc: Global, service: &Service) -> Result<Answer, AllocError>
-    ensures { IfOk result (λ a.
-        a ≡ answer 200 (Some (Document (service_document service.now))) None None) }
-{
-    let document = service.document().to_vec(alloc)?;
-    Ok(Answer::showing(Status::Ok, ReplyText::document(document)))
 }
 
 // The answer to a POST, a PUT and a DELETE.

@@ -140,6 +140,20 @@ impl Answer {
         }
     }
 
+    /// Returns the reply 200 that shows this text, and nothing else. An `Err` is lack of memory.
+    pub(crate) fn say_text(
+        alloc: Global,
+        form: Form,
+        bytes: Octets,
+        delivery: Delivery,
+    ) -> Result<Option<Performed>, AllocError>
+        ensures says { IfOk result (λ said. (s : State) →
+            Says s (answer 200 (Some (content_of form bytes)) None None) delivery said) }
+        ensures ends { IfOk result (λ said. IfSome said HasEnd) }
+    {
+        Answer::showing(Status::Ok, ReplyText::new(form, bytes)).say(alloc, delivery)
+    }
+
     /// Whether it shows nothing, though replies of its status say how long their content is.
     fn is_silent(&self) -> bool
         ensures { result ≡ is_silent self.now }

@@ -1,14 +1,11 @@
 //! Replies that show the bag of an object (RFC 8493).
-ghost use Rattle.std.specs.Prelude.{◌≡◌, ℕ, false, map, IfOk, IfSome, Some, None};
+ghost use Rattle.std.specs.Prelude.{◌≡◌, ℕ, false, map, IfOk, IfSome};
 ghost use Rattle.dep_types.specs.State.{State};
 ghost use Rattle.dep_types.specs.Sound.{IsSound};
-ghost use Rattle.dep_docs_out.specs.Documents.{bag_metadata_document};
 ghost use Rattle.dep_manifest.specs.Lengths.{OfLength};
-ghost use Rattle.dep_manifest.specs.TagFiles.{bagit_text};
 ghost use Rattle.dep_manifest.specs.Reported.{row_path};
 ghost use Rattle.dep_bag.specs.Bag.{list_text};
 ghost use Rattle.dep_bag.specs.Parts.{tag_file_at};
-ghost use Rattle.dep_answers.specs.Answers.{answer, Document, PlainText};
 ghost use Rattle.dep_answers.specs.Performing.{HasEnd, Says};
 ghost use Rattle.dep_answers.specs.ReadSets.{shown_at, read_set_in_bag};
 ghost use Rattle.dep_answers.specs.Reported.{reported_list, form_at, bag_answer};
@@ -72,7 +69,10 @@ pub(crate) fn bag_reply(
     match shown {
         Shown::Object(view) | Shown::Files(view) => tag_file_reply(alloc, view, path, delivery),
         Shown::ObjectRow(_) => reply_by_row(alloc, path, delivery),
-        Shown::Metadata { metadata, .. } => described(alloc, metadata)?.say(alloc, delivery),
+        Shown::Metadata { metadata, .. } => {
+            let document = Octets::from_vec(bag_metadata_doc(alloc, metadata)?);
+            Answer::say_text(alloc, Form::Document, document, delivery)
+        }
         Shown::File(row) => file_reply_at(alloc, row, path, delivery),
         _ => Ok(None),
     }
@@ -91,28 +91,13 @@ fn reply_by_row(
 {
     match tag_file(path) {
         Some(TagFile::TagManifest(algorithm)) => {
-            let size = tag_manifest_length(algorithm);
-            Ok(Some(measured_reply(alloc, size, delivery)?))
+            measured_reply(alloc, tag_manifest_length(algorithm), delivery)
         }
-        _ => declared(alloc)?.say(alloc, delivery),
+        _ => {
+            let text = Octets::from_vec(declaration(alloc)?);
+            Answer::say_text(alloc, Form::PlainText, text, delivery)
+        }
     }
-}
-
-// The declaration of a bag.
-fn declared(alloc: Global) -> Result<Answer, AllocError>
-    ensures { IfOk result (λ a. a ≡ answer 200 (Some (PlainText bagit_text)) None None) }
-{
-    let text = Octets::from_vec(declaration(alloc)?);
-    Ok(Answer::showing(Status::Ok, ReplyText::new(Form::PlainText, text)))
-}
-
-// The metadata of an object, as it stands in the object's bag.
-fn described(alloc: Global, metadata: &Metadata) -> Result<Answer, AllocError>
-    ensures { IfOk result (λ a.
-        a ≡ answer 200 (Some (Document (bag_metadata_document metadata.now))) None None) }
-{
-    let document = bag_metadata_doc(alloc, metadata)?;
-    Ok(Answer::showing(Status::Ok, ReplyText::document(document)))
 }
 
 // The content of the file with this row, without an entity tag, where it stands at the path.
@@ -126,7 +111,7 @@ fn file_reply_at(
     ensures ends { IfOk result (λ said. IfSome said HasEnd) }
 {
     if is_payload_path(path, row) {
-        Ok(Some(stored_reply(alloc, row, None, delivery)?))
+        stored_reply(alloc, row, None, delivery)
     } else {
         Ok(None)
     }
@@ -145,13 +130,10 @@ fn tag_file_reply(
     ensures ends { IfOk result (λ said. IfSome said HasEnd) }
 {
     if let Some(algorithm) = measured(path, delivery.is_head_only) {
-        let files = view.files.as_slice();
-        return Ok(Some(measured_manifest(alloc, files, algorithm, delivery)?));
+        return measured_manifest(alloc, view.files.as_slice(), algorithm, delivery);
     }
     match bag_file(alloc, view, path)? {
-        Some(BagPart::Bytes(text)) => {
-            Answer::showing(Status::Ok, ReplyText::new(form_at(path), text)).say(alloc, delivery)
-        }
+        Some(BagPart::Bytes(text)) => Answer::say_text(alloc, form_at(path), text, delivery),
         Some(BagPart::Stored(_)) => Ok(None),
         None => Ok(None),
     }
@@ -173,10 +155,10 @@ fn measured_manifest(
     files: &[FileRow],
     algorithm: Algorithm,
     delivery: Delivery,
-) -> Result<Performed, AllocError>
-    ensures says { IfOk result (λ p. OfLength algorithm (map row_path files.now)
-        (λ size. SaysLength size delivery p)) }
-    ensures ends { IfOk result HasEnd }
+) -> Result<Option<Performed>, AllocError>
+    ensures says { IfOk result (λ said. OfLength algorithm (map row_path files.now)
+        (λ size. SaysLength size delivery said)) }
+    ensures ends { IfOk result (λ said. IfSome said HasEnd) }
 {
     match payload_manifest_length(files, algorithm) {
         Some(size) => measured_reply(alloc, size, delivery),

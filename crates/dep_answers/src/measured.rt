@@ -1,5 +1,5 @@
 //! Replies that say how long a content is, of which nothing is read.
-ghost use Rattle.std.specs.Prelude.{◌≡◌, IfOk};
+ghost use Rattle.std.specs.Prelude.{◌≡◌, IfOk, IfSome};
 ghost use Rattle.dep_reply.specs.Head.{head_text};
 ghost use Rattle.dep_answers.specs.Performing.{HasEnd, measured_head};
 ghost use Rattle.dep_answers.specs.Reporting.{SaysLength};
@@ -10,20 +10,21 @@ use dep_reply::{Reply, Status, spell_head};
 use std::alloc::{AllocError, Global};
 
 /// Returns the reply to a HEAD of a plain text that has so many bytes (RFC 9110, section 9.3.2). It is to be delivered bare.
+/// There always is one: it is a `Some` so that callers return it as it is.
 pub(crate) fn measured_reply(
     alloc: Global,
     size: u64,
     delivery: Delivery,
-) -> Result<Performed, AllocError>
+) -> Result<Option<Performed>, AllocError>
     ensures says { IfOk result (SaysLength size delivery) }
-    ensures ends { IfOk result HasEnd }
+    ensures ends { IfOk result (λ said. IfSome said HasEnd) }
 {
-    Ok(Performed {
+    Ok(Some(Performed {
         status: Status::Ok,
         refusal: None,
         front: measured_front(alloc, Form::PlainText.media(), size, None, delivery)?,
         stored: None,
-    })
+    }))
 }
 
 /// Spells the head of a reply 200 whose content has this media type and so many bytes, and perhaps this entity tag.

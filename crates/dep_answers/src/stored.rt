@@ -4,7 +4,7 @@ ghost use Rattle.dep_types.specs.State.{State};
 ghost use Rattle.dep_answers.specs.Performing.{HasEnd, Says, stored_behind, file_of_row};
 ghost use Rattle.dep_answers.specs.ReadSets.{shown_at};
 ghost use Rattle.dep_answers.specs.Reported.{file_answer};
-ghost use Rattle.dep_answers.specs.Reporting.{IsContentOf};
+ghost use Rattle.dep_answers.specs.Reporting.{SaysContent};
 ghost use Rattle.dep_answers.specs.declared.performed.FileId.{FileId as AFileId};
 ghost use Rattle.dep_answers.specs.declared.read_set.ReadSet.TheVariants.{File};
 
@@ -26,28 +26,29 @@ pub(crate) fn file_reply(
     ensures ends { IfOk result (λ said. IfSome said HasEnd) }
 {
     match shown {
-        Shown::File(row) => Ok(Some(stored_reply(alloc, row, Some(row.tag), delivery)?)),
+        Shown::File(row) => stored_reply(alloc, row, Some(row.tag), delivery),
         _ => Ok(None),
     }
 }
 
 /// Returns the reply that shows the content of the file with this row, under its own media type and perhaps
-/// with an entity tag. No byte of the content is read.
+/// with an entity tag. No byte of the content is read. There always is one: it is a `Some` so that callers return
+/// it as it is.
 pub(crate) fn stored_reply(
     alloc: Global,
     row: &FileRow,
     tag: Option<u64>,
     delivery: Delivery,
-) -> Result<Performed, AllocError>
-    ensures says { IfOk result (IsContentOf row.now tag delivery) }
-    ensures ends { IfOk result HasEnd }
+) -> Result<Option<Performed>, AllocError>
+    ensures says { IfOk result (SaysContent row.now tag delivery) }
+    ensures ends { IfOk result (λ said. IfSome said HasEnd) }
 {
-    Ok(Performed {
+    Ok(Some(Performed {
         status: Status::Ok,
         refusal: None,
         front: measured_front(alloc, row.media.as_str(), row.size, tag, delivery)?,
         stored: content_behind(row, delivery.is_head_only),
-    })
+    }))
 }
 
 // The content of the file, unless the reply has no body or the file is empty.

@@ -1,7 +1,7 @@
 //! The words of the command line of `swordd`.
 ghost use Rattle.std.specs.Prelude.{◌≡◌, map, string_bytes, option_map};
 ghost use Rattle.dep_octets.specs.Octets.{decimal_number, value_of};
-ghost use Rattle.dep_program.specs.Commands.{asked_in, asked_of, replay_of, serve_of, export_of, audit_of, moment_of, from_one, unread_outcome};
+ghost use Rattle.dep_program.specs.Commands.{asked_in, asked_of, replay_of, serve_of, export_of, audit_of, from_one, unread_outcome};
 
 use crate::listening::ListenOptions;
 use crate::outcome::Outcome;
@@ -57,10 +57,14 @@ fn read_replay<'a>(words: &'a [String]) -> Option<Command<'a>>
     let [moment, base] = words else {
         return None;
     };
-    Some(Command::Replay {
-        moment: moment_in(moment.as_str())?,
-        base: base.as_str(),
-    })
+    // A moment is in whole seconds since 1970, of digits up to 2^64 - 1.
+    match decimal(moment.as_bytes(), u64::MAX) {
+        Number::Value(moment) => Some(Command::Replay {
+            moment,
+            base: base.as_str(),
+        }),
+        Number::NotDigits | Number::Above => None,
+    }
 }
 
 fn read_serve<'a>(words: &'a [String]) -> Option<Command<'a>>
@@ -105,16 +109,6 @@ fn read_audit<'a>(words: &'a [String]) -> Option<Command<'a>>
         file: file.as_str(),
         job: Job::Audit,
     })
-}
-
-/// A moment in whole seconds since 1970, of digits up to 2^64 - 1.
-fn moment_in(word: &str) -> Option<u64>
-    ensures { result ≡ moment_of word.now }
-{
-    match decimal(word.as_bytes(), u64::MAX) {
-        Number::Value(secs) => Some(secs),
-        Number::NotDigits | Number::Above => None,
-    }
 }
 
 /// A number from 1 to the greatest.

@@ -44,11 +44,16 @@ impl Outlet for FolderSink<'_> {
     ghost failures = { λ s. s.failures };
 
     fn write(&mut self, bytes: &[u8]) -> Result<(), WriteFailed> {
-        if bytes.is_empty() || self.folder.file.write_on(bytes).is_ok() {
+        if bytes.is_empty() {
             return Ok(());
         }
-        self.failures = self.failures.saturating_add(1);
-        Err(WriteFailed)
+        match self.folder.file.write_on(bytes) {
+            Ok(()) => Ok(()),
+            Err(_) => {
+                self.failures = self.failures.saturating_add(1);
+                Err(WriteFailed)
+            }
+        }
     }
 }
 

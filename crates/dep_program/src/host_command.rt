@@ -22,13 +22,7 @@ impl<'a> HostCommand<'a> {
     {
         match words {
             [word] => of_one(word.as_str()),
-            [word, file] => {
-                if word.as_str() == "--check" {
-                    Some(HostCommand::Check(file.as_str()))
-                } else {
-                    None
-                }
-            }
+            [word, file] if word.as_str() == "--check" => Some(HostCommand::Check(file.as_str())),
             _ => None,
         }
     }
@@ -37,15 +31,13 @@ impl<'a> HostCommand<'a> {
 fn of_one<'a>(word: &'a str) -> Option<HostCommand<'a>>
     ensures { option_map spec.asked_in result ≡ spec.asked_of_one word.now }
 {
-    if word == "--example" {
-        return Some(HostCommand::Example);
-    }
-    if word == "--version" {
-        return Some(HostCommand::Version);
-    }
-    // An option is no name of a file.
-    match word.as_bytes().first() {
-        Some(b'-') => None,
-        _ => Some(HostCommand::Serve(word)),
+    match word {
+        "--example" => Some(HostCommand::Example),
+        "--version" => Some(HostCommand::Version),
+        _ => match word.as_bytes().first() {
+            // An option is no name of a file.
+            Some(b'-') => None,
+            _ => Some(HostCommand::Serve(word)),
+        },
     }
 }

@@ -1,5 +1,5 @@
 //! The configuration of the program.
-ghost use Rattle.std.specs.Prelude.{◌≡◌, IfOk, string_bytes};
+ghost use Rattle.std.specs.Prelude.{◌≡◌, IfOk};
 ghost use Rattle.dep_program.specs.Setup.{program_config, base_at};
 
 use dep_types::{Config, GREATEST_MAX_ASSEMBLED, GREATEST_MAX_SEGMENTS, GREATEST_MAX_UPLOAD, Text};
@@ -40,17 +40,10 @@ pub fn configuration(alloc: Global, base: &str) -> Result<Config, AllocError>
 pub fn configuration_at(alloc: Global, port: u64) -> Result<Config, AllocError>
     ensures { IfOk result (λ config. config ≡ program_config (base_at port)) }
 {
-    let base = base_text(alloc, port)?;
-    configuration(alloc, base.as_str())
-}
-
-/// The base at a port of 127.0.0.1.
-fn base_text(alloc: Global, port: u64) -> Result<String, AllocError>
-    ensures { IfOk result (λ text. string_bytes text ≡ base_at port) }
-{
     if port == DEFAULT_PORT {
-        return String::from_str(alloc, "http://127.0.0.1");
+        return configuration(alloc, "http://127.0.0.1");
     }
     let mut digits = Buffer::new();
-    ["http://127.0.0.1:", digits.format(port)].concat(alloc)
+    let base = ["http://127.0.0.1:", digits.format(port)].concat(alloc)?;
+    configuration(alloc, base.as_str())
 }

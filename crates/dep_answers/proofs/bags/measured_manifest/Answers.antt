@@ -6,5 +6,5 @@ use Rattle.dep_answers.proofs.bags.measured_manifest.Goals as goal
 pub returns-in-Some-clause-says : goal.returns-in-Some-clause-says
 returns-in-Some-clause-says c =
     IfOk-weaker c.measured_reply.result _ _
-    (λ p says files e. subst (λ (size : ℕ). SaysLength size c.args.delivery p) (c.in-Some.ensures files e) says)
+    (λ said says files e. subst (λ (size : ℕ). SaysLength size c.args.delivery said) (c.in-Some.ensures files e) says)
     c.measured_reply.ensures.says

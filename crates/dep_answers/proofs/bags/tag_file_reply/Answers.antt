@@ -17,27 +17,26 @@ use Rattle.dep_answers.proofs.ShownReplies.{nothing_said, says_as}
 use Rattle.dep_answers.proofs.bags.tag_file_reply.Goals as goal
 
 pub returns-in-Some-clause-says : goal.returns-in-Some-clause-says
-returns-in-Some-clause-says c = λ s n o sound of there is.
-    let file = tag_file_at c.args.path.now in
-    let at = measured_there file c.args.delivery.is_head_only c.in-Some.algorithm (sym c.in-Some.is ∙ c.measured.ensures) in
-    let says = subst (λ (rows : List FileRow). OfLength c.in-Some.algorithm (map row_path rows) (λ (size : ℕ). SaysLength size c.args.delivery c.in_ok-measured_manifest.field-0))
-    c.as_slice-files.ensures c.in_ok-measured_manifest.ensures.says in
-    manifest_measured s n o c.args.path.now c.args.delivery _ c.in-Some.algorithm c.args.view.now at.0 at.1 is says
+returns-in-Some-clause-says c =
+    IfOk-weaker c.measured_manifest.result _ _
+    (λ said says s n o sound of there is.
+    let at = measured_there (tag_file_at c.args.path.now) c.args.delivery.is_head_only c.in-Some.algorithm (sym c.in-Some.is ∙ c.measured.ensures) in
+    manifest_measured s n o c.args.path.now c.args.delivery said c.in-Some.algorithm c.args.view.now at.0 at.1 is
+    (subst (λ (rows : List FileRow). OfLength c.in-Some.algorithm (map row_path rows) (λ (size : ℕ). SaysLength size c.args.delivery said)) c.as_slice.ensures says))
+    c.measured_manifest.ensures.says
 
 -- what is not measured is written by the same view
 pub returns-in-Some-Bytes-clause-says : goal.returns-in-Some-Bytes-clause-says
 returns-in-Some-Bytes-clause-says c =
     let path = c.args.path.now in
     let reported = ap (λ (x : BagPart). Some x) (sym c.in-Some-Bytes.field-0-is) ∙ (sym c.in-Some-Bytes.is ∙ c.in_ok-text.ensures) in
-    IfOk-weaker c.say.result _ _
+    IfOk-weaker c.say_text.result _ _
     (λ p says s n o sound of there is. says_as s _ (answer 200 (shown_in_bag n o path) None None) c.args.delivery p
-    (c.showing.ensures
-    ∙ ap (λ (x : ReplyContent). answer 200 (Some x) None None) c.new.ensures
-    ∙ ap (λ (f : Form). answer 200 (Some (content_of f c.in-Some-Bytes.text)) None None) c.form_at.ensures
+    (ap (λ (f : Form). answer 200 (Some (content_of f c.in-Some-Bytes.text)) None None) c.form_at.ensures
     ∙ ap (λ (x : Option ReplyContent). answer 200 x None None)
     (sym (text_shown n o c.args.view.now path c.in-Some-Bytes.text (is ∙ same_view n o (tag_file_at path) c.args.delivery.is_head_only (sym c.in_default.is ∙ c.measured.ensures)) reported)))
     (says s))
-    c.say.ensures.says
+    c.say_text.ensures.says
 
 pub returns-in-Some-Stored-clause-says : goal.returns-in-Some-Stored-clause-says
 returns-in-Some-Stored-clause-says c = λ s n o sound of there is.
