@@ -1,5 +1,5 @@
 //! Replies that show the bag of an object (RFC 8493).
-ghost use Rattle.std.specs.Prelude.{◌≡◌, ℕ, false, map, IfOk, IfSome};
+ghost use Rattle.std.specs.Prelude.{◌≡◌, ℕ, map, IfOk, IfSome};
 ghost use Rattle.dep_types.specs.State.{State};
 ghost use Rattle.dep_types.specs.Sound.{IsSound};
 ghost use Rattle.dep_manifest.specs.Lengths.{OfLength};
