@@ -12,12 +12,9 @@ use crate::rest::Behind;
 pub(crate) fn is_any_pending(connections: &[Connection]) -> bool
     ensures { result ≡ spec.is_any_pending connections.now }
 {
-    for connection in connections {
-        if is_pending(connection.behind) {
-            return true;
-        }
-    }
-    false
+    connections
+        .iter()
+        .any(|connection| is_pending(connection.behind))
 }
 
 /// The same where a connection has come to this, and before that nothing was pending, or something was.
@@ -40,12 +37,9 @@ pub(crate) fn still_pending(connections: &[Connection], before: bool, behind: Be
 pub(crate) fn is_any_waiting(connections: &[Connection]) -> bool
     ensures { result ≡ spec.is_any_waiting connections.now }
 {
-    for connection in connections {
-        if let Behind::Waits(_) = connection.behind {
-            return true;
-        }
-    }
-    false
+    connections
+        .iter()
+        .any(|connection| is_waiting(connection.behind))
 }
 
 /// The same where no request waits that didn't before.
@@ -57,6 +51,15 @@ pub(crate) fn still_waiting(connections: &[Connection], before: bool) -> bool
         return is_any_waiting(connections);
     }
     false
+}
+
+fn is_waiting(behind: Behind) -> bool
+    ensures { result ≡ spec.is_waiting behind }
+{
+    match behind {
+        Behind::Waits(_) => true,
+        _ => false,
+    }
 }
 
 /// The place of the one whose turn it is, of those whose next request is prepared, behind the turn of a number: of those
@@ -113,12 +116,9 @@ fn is_pending(behind: Behind) -> bool
 pub(crate) fn has_to_wait(connections: &[Connection], claim: Claim) -> bool
     ensures { result ≡ spec.has_to_wait connections.now claim }
 {
-    for connection in connections {
-        if is_in_the_way(claim, connection.behind) {
-            return true;
-        }
-    }
-    false
+    connections
+        .iter()
+        .any(|connection| is_in_the_way(claim, connection.behind))
 }
 
 /// Whether a request that waits has to wait still.
