@@ -27,7 +27,7 @@ pub counted_by : (n : ℕ) (has_sent : Bool) → (has_sent ≡ true → n ≡ 1)
 counted_by n true one none = one refl
 counted_by n false one none = none refl
 
-sendings_append : (place : ℕ) (xs ys : List HostAction) → sendings_at place (xs ++ ys) ≡ sendings_at place xs ++ sendings_at place ys
+pub sendings_append : (place : ℕ) (xs ys : List HostAction) → sendings_at place (xs ++ ys) ≡ sendings_at place xs ++ sendings_at place ys
 sendings_append place xs ys = flat_map-append (λ d. sending_at place d) xs ys
 
 -- no step of a content was sent there in the one stretch, or in the other

@@ -80,7 +80,7 @@ module _ {A R K S : Type 0} (condition : A → Condition) (unread : R → Option
   step_begins_none {p = p} {q = q} w holds at (leaves {slot = slot} r) clean waiting files waits k is_sent =
       (not_closed files (k == slot.connection) (behind_at p.hub.connections.items k) (sym (ap (sends_of files) (r.behind k)) ∙ is_sent), refl)
 
-  as_steps : {waiting : ℕ} {files : Files} {m q : Position A R K S} {late : List HostAction} → StepsAwaiting condition unread taken held waiting files m late q → Steps condition unread taken held m late q
+  pub as_steps : {waiting : ℕ} {files : Files} {m q : Position A R K S} {late : List HostAction} → StepsAwaiting condition unread taken held waiting files m late q → Steps condition unread taken held m late q
   as_steps waits_first = begins
   as_steps (waits_on s t waits) = goes_on (as_steps s) t
 

@@ -10,6 +10,9 @@ mod ReadLemmas
 mod SendLemmas
 mod OweLemmas
 mod AwaitLemmas
+mod TurnLemmas
+mod WaitLemmas
+mod WaitRounds
 pub mod CloseLemmas
 mod GivenLemmas
 mod ShutLemmas

@@ -109,7 +109,7 @@ pub replies_join : (n : ℕ) (xs ys : List HostAction) → reply_count n (xs ++ 
 replies_join n [] ys = let none : reply_count n [] ≡ 0 = refl in omega (arith, none)
 replies_join n (d ∷ xs) ys = let e = replies_join n xs ys in omega (arith, e)
 
-parts_join : (n : ℕ) (xs ys : List HostAction) → parts_of n (xs ++ ys) ≡ parts_of n xs + parts_of n ys
+pub parts_join : (n : ℕ) (xs ys : List HostAction) → parts_of n (xs ++ ys) ≡ parts_of n xs + parts_of n ys
 parts_join n [] ys = let none : parts_of n [] ≡ 0 = refl in omega (arith, none)
 parts_join n (d ∷ xs) ys = let e = parts_join n xs ys in omega (arith, e)
 

@@ -165,7 +165,7 @@ module _ {A R K S : Type 0} (condition : A → Condition) (unread : R → Option
       }
 
   -- in its turn a content goes on
-  one_step : (p q : Position A R K S) (actions : List HostAction) (is_full may_send : Bool) (before after : Slot R K S) (answered read : ℕ) (sent : List SentOn) → may_send ≡ true
+  pub one_step : (p q : Position A R K S) (actions : List HostAction) (is_full may_send : Bool) (before after : Slot R K S) (answered read : ℕ) (sent : List SentOn) → may_send ≡ true
       → IsServed condition unread taken held size causes p q actions is_full may_send before after answered read sent to.Send → length sent ≡ 1
   one_step p q actions is_full may_send before after answered read sent turn (inl (may, s)) = let one : length (s.0 ∷ []) ≡ 1 = refl in ap (λ (l : List SentOn). length l) s.1 ∙ one
   one_step p q actions is_full may_send before after answered read sent turn (inr (none, unsent, off, phase)) = absurd (let bad : true ≡ false = sym turn ∙ none in cc)

@@ -6,3 +6,4 @@ pub mod Coming
 pub mod Rounds
 pub mod Meeting
 pub mod Laws
+pub mod Waiting

@@ -1,6 +1,7 @@
 //! What follows from how a host goes on, apart from any code.
 ghost use Rattle.dep_slot.specs.Causes.{causes_of};
 ghost use Rattle.dep_host.specs.Sharing.{TurnsCome};
+ghost use Rattle.dep_host.specs.Waiting.{FreesWaiting};
 ghost use Rattle.dep_host.specs.Laws.{BeginsNoneAwaited, GoesOnInTurn, SendingEnds, MakesRuns, TakesWhatIsSent, ReadsArrive, SitsApart, SitsOpen, KeepsPromises, TakesNothing, SendsContents};
 
 use dep_hub::Archive;
@@ -79,6 +80,17 @@ pub fn sending_ends<A: Archive, R: Source, K: Sink, S: Spool>()
 /// waits none begins. That each of these goes on in its turn is `contents_go_on`, and that it ends is `sending_ends`.
 pub fn no_awaited_content_begins<A: Archive, R: Source, K: Sink, S: Spool>()
     ensures { BeginsNoneAwaited A.condition R.unread K.taken S.held }
+{
+    replies_make_a_run::<A>();
+}
+
+/// A request that takes files has to wait no longer than so many rounds. In each 17 that follow one behind the other each
+/// of 1,024 places has its turn. So once they are 17 times as many as bytes were owed to a connection when it began to
+/// wait, and 17 more, no content of these files is being sent to that. Once it is so with each connection to which one
+/// was being sent then, nothing stands in its way any more.
+pub fn waiting_requests_become_free<A: Archive, R: Source, K: Sink, S: Spool>()
+    ensures { FreesWaiting A.condition R.unread K.taken S.held S.size
+        (causes_of R.halts K.halts S.failures) }
 {
     replies_make_a_run::<A>();
 }
