@@ -109,12 +109,12 @@ pub replies_join : (n : ℕ) (xs ys : List HostAction) → reply_count n (xs ++ 
 replies_join n [] ys = let none : reply_count n [] ≡ 0 = refl in omega (arith, none)
 replies_join n (d ∷ xs) ys = let e = replies_join n xs ys in omega (arith, e)
 
+as_many : (n : ℕ) → 0 + n ≤ n
+as_many n = omega arith
+
 pub parts_join : (n : ℕ) (xs ys : List HostAction) → parts_of n (xs ++ ys) ≡ parts_of n xs + parts_of n ys
 parts_join n [] ys = let none : parts_of n [] ≡ 0 = refl in omega (arith, none)
 parts_join n (d ∷ xs) ys = let e = parts_join n xs ys in omega (arith, e)
-
-as_many : (n : ℕ) → 0 + n ≤ n
-as_many n = omega arith
 
 -- a part takes some of what is owed
 paid_part : (answer : SentOn) (sent rest owed : List ℕ) → owed ≡ sent ++ rest → IsPaid answer sent rest → (if is_part answer then 1 else 0) + length rest ≤ length owed

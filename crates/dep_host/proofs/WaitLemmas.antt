@@ -15,6 +15,7 @@ use Rattle.dep_hub.specs.declared.hub.Hub.{Hub}
 use Rattle.dep_hub.specs.declared.rest.Behind.{Behind}
 use Rattle.dep_hub.specs.declared.rest.Behind.TheVariants.{Nothing, Content, Broken, Waits, Prepares, Prepared}
 use Rattle.dep_hub.specs.declared.sent_on.SentOn.{SentOn}
+use Rattle.dep_hub.proofs.PendingLemmas.{sends_content, true_false}
 use Rattle.dep_hub.proofs.PreparingLemmas.{ahead_contents, ahead_sends}
 use Rattle.dep_slot.specs.declared.connection_state.Phase.{Phase}
 use Rattle.dep_slot.specs.declared.connection_state.Phase.TheVariants.{Open, Answering, Over}
@@ -28,18 +29,6 @@ use Rattle.dep_host.proofs.OweLemmas.{parts_join}
 use Rattle.dep_host.proofs.ReportLemmas.{some_same, no_some}
 
 -- ---- contents
-
-true_false : true ≡ false → ⊥
-true_false e = cc
-
--- a content of some files is one
-pub sends_content : (files : Files) (b : Behind) → sends_of files b ≡ true → is_content b ≡ true
-sends_content files (Content r) e = refl
-sends_content files Nothing e = e
-sends_content files Broken e = e
-sends_content files (Waits claim) e = e
-sends_content files (Prepares left) e = e
-sends_content files Prepared e = e
 
 content_unsent : (b : Behind) → is_content b ≡ true → is_unsent b ≡ true
 content_unsent (Content r) e = refl
@@ -78,21 +67,6 @@ kept_on files cs was now (begins_to_prepare w names is) is_sent = absurd (true_f
 kept_on files cs was now (waits_still claim w is held) is_sent = absurd (true_false (sym is_sent ∙ ap (sends_of files) w))
 kept_on files cs was now (begins_to_wait claim u has is held) is_sent = absurd (true_false (sym (content_unsent was (sends_content files was is_sent)) ∙ u.0))
 kept_on files cs was now (lacks_memory u pending has is) is_sent = absurd (true_false (sym (content_unsent was (sends_content files was is_sent)) ∙ u.0))
-
-found_in : (f : Behind → Bool) (low high : ℕ) (c : Connection) (cs : List Connection) (b : Bool) → Ascends low (c ∷ cs) high → f c.behind ≡ b → (b || list_any (λ (x : Connection). f x.behind) cs) ≡ true
-    → (list_any (λ (x : Connection). f x.behind) cs ≡ true → (m : ℕ) × (c.number + 1 ≤ m) × (f (behind_at cs m) ≡ true)) → (m : ℕ) × (low ≤ m) × (f (behind_at (c ∷ cs) m) ≡ true)
-found_in f low high c cs true ascends is any later =
-    (c.number, ascends.0, ap (λ (b : Bool). f (if b then c.behind else behind_at cs c.number)) (eq-eqb c.number c.number refl) ∙ is)
-found_in f low high c cs false ascends is any later =
-    let x = later any in
-    let above = x.1 in
-    let least = ascends.0 in
-    (x.0, omega (arith, above, least), ap (λ (b : Bool). f (if b then c.behind else behind_at cs x.0)) (ne_eqb c.number x.0 (λ e. omega (arith, above, e))) ∙ x.2)
-
--- what holds of what is behind some connection holds of one that is found by its number
-pub found_at : (f : Behind → Bool) (low high : ℕ) (cs : List Connection) → Ascends low cs high → list_any (λ (c : Connection). f c.behind) cs ≡ true → (m : ℕ) × (low ≤ m) × (f (behind_at cs m) ≡ true)
-found_at f low high [] ascends any = absurd (true_false (sym any))
-found_at f low high (c ∷ cs) ascends any = found_in f low high c cs (f c.behind) ascends refl any (found_at f (c.number + 1) high cs ascends.1)
 
 -- ---- actions
 

@@ -10,6 +10,7 @@ use Rattle.dep_hub.specs.Representing.{IsClean}
 use Rattle.dep_hub.specs.RepresentsOwing.{behind_at}
 use Rattle.dep_hub.specs.declared.claim.Claim.TheVariants.{Takes}
 use Rattle.dep_hub.specs.declared.claim.Files.{Files}
+use Rattle.dep_hub.proofs.PendingLemmas.{found_at, sends_content}
 use Rattle.dep_hub.proofs.SourceLemmas.{unawaited_unsent}
 use Rattle.dep_outbox.specs.Wires.{owed_count}
 use Rattle.dep_slot.specs.Causes.{Causes}
@@ -35,7 +36,7 @@ use Rattle.dep_host.proofs.ReportLemmas.{no_some, some_same}
 use Rattle.dep_host.proofs.SendLemmas.{steps_agree}
 use Rattle.dep_host.proofs.TurnLemmas.{turns_in, turns_come_often}
 use Rattle.dep_host.proofs.WholeRounds.{one_step}
-use Rattle.dep_host.proofs.WaitLemmas.{found_at, IsSparedByAll, spared_before, spared_join, sends_content, step_spares, keep_sending, same_places, StaysThere, stays_there, steps_seat}
+use Rattle.dep_host.proofs.WaitLemmas.{IsSparedByAll, spared_before, spared_join, step_spares, keep_sending, same_places, StaysThere, stays_there, steps_seat}
 
 not_true : (b : Bool) → (b ≡ true → ⊥) → b ≡ false
 not_true true never = absurd (never refl)

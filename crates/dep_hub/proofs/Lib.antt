@@ -5,7 +5,7 @@ mod HeldLemmas
 mod PartLemmas
 mod HoldingLemmas
 mod BehindLemmas
-mod PendingLemmas
+pub mod PendingLemmas
 mod TurnLemmas
 pub mod SourceLemmas
 mod KeptLemmas

@@ -97,7 +97,7 @@ found_in f low high c cs false a is e k =
     let above : low ≤ x.0 = omega (arith, a.0, x.1) in
     (x.0, above, ap (λ (t : Bool). f (if t then c.behind else behind_at cs x.0)) other ∙ x.2)
 
-found_at : (f : Behind → Bool) (low high : ℕ) (cs : List Connection) → Ascends low cs high → list_any (λ (c : Connection). f c.behind) cs ≡ true
+pub found_at : (f : Behind → Bool) (low high : ℕ) (cs : List Connection) → Ascends low cs high → list_any (λ (c : Connection). f c.behind) cs ≡ true
     → (m : ℕ) × (low ≤ m) × (f (behind_at cs m) ≡ true)
 found_at f low high [] a e = absurd (true_false (sym e))
 found_at f low high (c ∷ cs) a e = found_in f low high c cs (f c.behind) a refl e (found_at f (c.number + 1) high cs a.1)
@@ -226,7 +226,8 @@ awaited_by files (Waits claim) cs n e waits = cc
 awaited_by files (Prepares left) cs n e waits = cc
 awaited_by files Prepared cs n e waits = cc
 
-sends_content : (files : Files) (b : Behind) → sends_of files b ≡ true → is_content b ≡ true
+-- a content of some files is one
+pub sends_content : (files : Files) (b : Behind) → sends_of files b ≡ true → is_content b ≡ true
 sends_content files (Content r) e = refl
 sends_content files Nothing e = cc
 sends_content files Broken e = cc
