@@ -10,7 +10,7 @@ use std::time::SystemTime;
 pub const VERSION: &str = "1.0";
 
 /// The kit that it is proved and built with, as `rt version` tells it.
-pub const KIT: &str = "rattle-kit-13b logic dac8208d650f15bf";
+pub const KIT: &str = "rattle-kit-13f logic dac8208d650f15bf";
 
 /// Writes the line to standard error, of a server that listens at the address, and whose database took so many
 /// microseconds to open. A line that can't be written is left out.
