@@ -11,3 +11,6 @@ pub mod SectionLaws
 pub mod UnitLaws
 pub mod OneBody
 pub mod SectionEnds
+pub mod Slices
+pub mod Walks
+pub mod BodyCases

@@ -1,4 +1,4 @@
-//! The framing of a body by the fields of its head.
+//! What the fields of a head say of the body: its framing, and whether it is hashed as it comes.
 ghost use Rattle.std.specs.Prelude.{◌≡◌};
 ghost use Rattle.dep_body.specs.Framing.{framing, length_framing};
 ghost use Rattle.dep_octets.specs.Octets.{decimal_number};
@@ -32,6 +32,16 @@ pub fn framing(head: &Head, max_upload: u64) -> Result<Framing, FrameFault>
         }
         _ => Err(FrameFault::Bad),
     }
+}
+
+/// Whether the octets of a content are hashed as they come: those of a segment only where its head promises a
+/// digest, since nothing asks for them else. It decides when they are hashed, and no reply.
+pub fn is_hashed_early(head: &Head) -> bool {
+    let is_segment = match head.values("Content-Disposition").next() {
+        Some(value) => value.starts_with(b"segment"),
+        None => false,
+    };
+    !is_segment || head.values("Digest").next().is_some()
 }
 
 fn length_of(value: &[u8], max_upload: u64) -> Result<Framing, FrameFault>

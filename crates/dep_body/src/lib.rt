@@ -2,8 +2,11 @@
 //!
 //! This profile's limits: a chunk line has at most 1,024 bytes with its CR LF, and the trailers at most
 //! 16,384 with the last CR LF. Lines end with CR LF alone.
+//!
+//! `Buffer` has the bytes that came, until they are used.
 #![tactic(auto)]
 
+mod buffer;
 mod fields;
 mod frame;
 pub mod laws;
@@ -12,7 +15,10 @@ mod reader;
 mod size;
 mod stage;
 mod trailers;
+mod used;
 
-pub use fields::framing;
+pub use buffer::Buffer;
+pub use fields::{framing, is_hashed_early};
 pub use frame::{FrameFault, Framing};
 pub use reader::{ChunkReader, Fed};
+pub use used::UsedBytes;

@@ -1,5 +1,5 @@
 -- A head, and the body behind it.
-use Rattle.std.proofs.Common.{◌≡◌, ℕ, ◌<◌, ◌≤◌, ◌&&◌, not, Bool, true, false, List, [], ◌++◌, length, take, drop, Ok, refl, sym, ap, ◌∙◌, append_assoc, append-nil, length-append, arith, inr}
+use Rattle.std.proofs.Common.{◌≡◌, ℕ, ◌<◌, ◌≤◌, ◌&&◌, not, Bool, true, false, List, [], ◌++◌, length, take, drop, Ok, refl, sym, ap, subst, ◌∙◌, append_assoc, append-nil, length-append, arith, inr}
 use Rattle.std.proofs.lemmas.List.{length-take-le, take-append-drop}
 use Rattle.dep_head.specs.Head.{HeadParts, IsHeadText}
 use Rattle.dep_head.proofs.HeadEnd.{end_within}
@@ -12,7 +12,7 @@ use Rattle.dep_message.specs.Heads.{is_due, is_head_only}
 use Rattle.dep_message.specs.Places.{Open, HasBytes}
 use Rattle.dep_message.specs.Stream.{HasHead, IsFaultText, bad_body, IsRequestText, IsContinueText, Waits, frame_refusal}
 use Rattle.dep_message.specs.Giving.{BeginsWith, BeginsWithHead}
-use Rattle.dep_message.specs.Working.{HasBodySize, IsBegun}
+use Rattle.dep_message.specs.Working.{HasBodySize, HasSizedHead, IsBegun}
 use Rattle.dep_message.specs.declared.message.Message.{Message}
 use Rattle.dep_message.proofs.Reading.{has_bytes}
 
@@ -46,6 +46,13 @@ pub waits_for_body : (limit : ℕ) (continued : Bool) (front body : List ℕ) (h
 waits_for_body limit continued front body head frame b part =
     inr (record { head = head; frame = frame; behind = body; has_head = headed limit continued front body head frame b; is_part = part })
 
+-- a body that has not come whole is awaited
+pub waits_behind : (limit : ℕ) (continued : Bool) (bytes : List ℕ) (n : ℕ) (head : HeadParts) (frame : Framing)
+    → IsBegun limit continued (take n bytes) head frame → IsPartOfBody limit frame (drop n bytes) → Waits limit (Open continued bytes)
+waits_behind limit continued bytes n head frame begun part =
+    subst (λ (l : List ℕ). Waits limit (Open continued l)) (take-append-drop n bytes)
+    (waits_for_body limit continued (take n bytes) (drop n bytes) head frame begun part)
+
 pub body_fault : (limit : ℕ) (continued : Bool) (front text behind : List ℕ) (head : HeadParts) (frame : Framing) (fault : FrameFault)
     → IsBegun limit continued front head frame → IsBodyFault limit frame text fault
     → BeginsWith (λ whole. IsFaultText limit continued whole (frame_refusal fault) (is_head_only head)) (front ++ (text ++ behind))
@@ -68,6 +75,12 @@ pub sized_frame : (frame : Framing) (size : ℕ) → HasBodySize frame size → 
 sized_frame Empty size none some = absurd (omega (arith, none, some))
 sized_frame (Length n) size is some = ap Length (sym is)
 sized_frame Chunked size is some = absurd is
+
+pub sized_waits : (limit : ℕ) (continued : Bool) (front behind : List ℕ) (head : HeadParts) (size : ℕ) → HasSizedHead limit continued front head size → length behind < size
+    → Waits limit (Open continued (front ++ behind))
+sized_waits limit continued front behind head size h less =
+    waits_for_body limit continued front behind head h.frame h.begun
+    (subst (λ (f : Framing). IsPartOfBody limit f behind) (sym (sized_frame h.frame size h.size_is (omega (arith, less)))) less)
 
 -- a good head is one but for its target
 pub begins_with_head : (limit : ℕ) (continued : Bool) (front body : List ℕ) (head : HeadParts) (frame : Framing)

@@ -17,7 +17,7 @@ use Rattle.dep_message.specs.Places.{Open}
 use Rattle.dep_message.specs.Stream.{IsFaultText, IsRequestText, Waits, frame_refusal}
 use Rattle.dep_message.specs.Working.{IsBegun, ReadsChunks}
 use Rattle.dep_message.specs.declared.progress.ChunkedRequest.{ChunkedRequest}
-use Rattle.dep_message.specs.declared.used.UsedBytes.{UsedBytes}
+use Rattle.dep_body.specs.declared.used.UsedBytes.{UsedBytes}
 use Rattle.dep_message.proofs.Bodies.{begins_with_head, body_fault, waits_for_body, whole_request}
 
 -- nothing is a part of a body

@@ -14,9 +14,8 @@ use Rattle.dep_message.specs.Stream.{Item, Fault, Continue, Request, after_item,
 use Rattle.dep_message.specs.Giving.{BeginsWith}
 use Rattle.dep_message.specs.Working.{IsBegun}
 use Rattle.dep_message.specs.declared.message.Message.{Message}
-use Rattle.dep_message.proofs.BodyCases.{BodyCase, is_whole, is_faulty, is_part, body_cases}
-use Rattle.dep_message.proofs.Bodies.{waiting_head, body_fault, whole_request}
-use Rattle.dep_message.proofs.Keeping.{waits_behind}
+use Rattle.dep_body.proofs.BodyCases.{BodyCase, is_whole, is_faulty, is_part, body_cases}
+use Rattle.dep_message.proofs.Bodies.{waiting_head, waits_behind, body_fault, whole_request}
 use Rattle.dep_message.proofs.Taking.{not_reported, some_left, less_reported, less_behind}
 
 -- what can't be refused

@@ -1,12 +1,12 @@
 -- What is kept of the bytes.
-use Rattle.std.proofs.Common.{◌≡◌, ℕ, ◌+◌, ◌<◌, ◌≤◌, Bool, None, arith, inl, false, List, [], ◌++◌, length, take, drop, sym, ap, subst, ◌∙◌, append-nil, append_assoc, refl}
-use Rattle.std.proofs.lemmas.List.{length-take-le, take-append-drop}
-use Rattle.std.proofs.Math.Seq.{take-add, take-length}
-use Rattle.dep_head.specs.Head.{HeadParts, head_end, head_limit}
-use Rattle.dep_body.specs.declared.frame.Framing.{Framing}
+use Rattle.std.proofs.Common.{◌≡◌, ℕ, zero, suc, ◌+◌, ◌<◌, ◌≤◌, Bool, false, None, arith, inl, inr, List, [], ◌∷◌, ◌++◌, length, take, drop, sym, ap, subst, ◌∙◌, append-nil, append_assoc, length-drop, refl}
+use Rattle.std.proofs.lemmas.Bool.{cases_lt}
+use Rattle.std.proofs.lemmas.List.{drop-drop, drop_all, length-take-le, take-append-drop, take_all}
+use Rattle.std.proofs.Math.Seq.{take-length}
+use Rattle.dep_head.specs.Head.{head_end, head_limit}
 use Rattle.dep_message.specs.Giving.{BeginsWithHead}
 use Rattle.dep_message.specs.Places.{Reading, Open}
-use Rattle.dep_message.specs.Working.{IsUnsearched, IsItem, IsKnownProgress, IsAtHead, IsBegun, IsReadTo, ReadsChunks, KeepsBytes, bytes_with, first_found, kept_bytes, reading_of}
+use Rattle.dep_message.specs.Working.{IsUnsearched, IsItem, HasSizedHead, IsKnownProgress, IsAtHead, IsReadTo, ReadsChunks, KeepsBytes, StandsApart, bytes_with, first_found, kept_bytes, reading_of}
 use Rattle.dep_message.specs.Stream.{IsRequestText, Waits}
 use Rattle.dep_message.specs.declared.first.FramedHead.{FramedHead}
 use Rattle.dep_message.specs.declared.intake.Standing.{Standing}
@@ -14,15 +14,13 @@ use Rattle.dep_message.specs.declared.intake.Standing.TheVariants.{Live}
 use Rattle.dep_message.specs.declared.message.Message.{Message}
 use Rattle.dep_message.specs.declared.progress.Found.{Found}
 use Rattle.dep_message.specs.declared.progress.Found.TheVariants as F
-use Rattle.dep_body.specs.Body.{IsBodyText, IsPartOfBody}
-use Rattle.dep_body.specs.declared.frame.Framing.TheVariants.{Length}
 use Rattle.dep_message.specs.declared.progress.Progress.{Progress}
 use Rattle.dep_message.specs.declared.progress.Progress.TheVariants.{Searched, Sized, Chunked}
 use Rattle.dep_message.specs.declared.progress.SizedRequest.{SizedRequest}
 use Rattle.dep_message.specs.declared.progress.ChunkedRequest.{ChunkedRequest}
-use Rattle.dep_message.specs.declared.used.UsedBytes.{UsedBytes}
+use Rattle.dep_body.specs.declared.used.UsedBytes.{UsedBytes}
 use Rattle.dep_message.specs.declared.unparsed.Unparsed.{Unparsed}
-use Rattle.dep_message.proofs.Bodies.{begins_with_head, whole_request, waits_for_body}
+use Rattle.dep_message.proofs.Bodies.{begins_with_head, sized_body, sized_waits, whole_request}
 use Rattle.dep_message.proofs.SearchOn.{searched_none}
 
 -- the same bytes are kept, and the item that stands first in them was found
@@ -49,31 +47,6 @@ keeps_searched unparsed new n new_is n_is waits =
       inl waits,
     )
 
--- the head of a request was used, and the bytes behind it stand apart
-pub keeps_sized : (unparsed : Unparsed) (request : SizedRequest) → IsKnownProgress unparsed.limit unparsed.continued unparsed.buffer (Sized request)
-    → KeepsBytes unparsed.limit unparsed.continued (request.used.items ++ request.behind) (record unparsed { progress = Sized request })
-keeps_sized unparsed request known = record { limit_is = refl; continued_is = refl; bytes_are = refl; known = known }
-
--- the bytes of a request in chunks that were used, and others behind them
-pub keeps_chunked : (unparsed : Unparsed) (request : ChunkedRequest) → ReadsChunks unparsed.limit unparsed.continued request
-    → KeepsBytes unparsed.limit unparsed.continued (request.used.items ++ unparsed.buffer) (record unparsed { progress = Chunked request })
-keeps_chunked unparsed request reads = record { limit_is = refl; continued_is = refl; bytes_are = refl; known = reads }
-
--- the same with no others
-pub keeps_used : (unparsed : Unparsed) (request : ChunkedRequest) (bytes : List ℕ) → ReadsChunks unparsed.limit unparsed.continued request → request.used.items ≡ bytes
-    → KeepsBytes unparsed.limit unparsed.continued bytes (record unparsed { buffer = []; progress = Chunked request })
-keeps_used unparsed request bytes reads same =
-    record { limit_is = refl; continued_is = refl; bytes_are = append-nil request.used.items ∙ same; known = reads }
-
--- where memory is refused behind a head, nothing changes
-pub unchanged : (unparsed : Unparsed) (first : FramedHead) → IsAtHead unparsed first
-    → KeepsBytes unparsed.limit unparsed.continued unparsed.buffer unparsed × BeginsWithHead unparsed.buffer
-unchanged unparsed first at = (
-  keeps_fresh unparsed.limit unparsed.continued unparsed.buffer unparsed at.fresh refl refl refl,
-  subst BeginsWithHead (take-append-drop first.length unparsed.buffer)
-      (begins_with_head unparsed.limit unparsed.continued (take first.length unparsed.buffer) (drop first.length unparsed.buffer) first.head first.framing at.begun),
-)
-
 -- the item that stands first was found
 pub keeps_found : (unparsed new : Unparsed) (bytes : List ℕ) (item : Found) (used : UsedBytes) → new ≡ record unparsed { progress = first_found item used }
     → used.items ++ unparsed.buffer ≡ bytes → IsItem unparsed.limit unparsed.continued used.items unparsed.buffer item → IsFoundIn unparsed bytes new
@@ -94,49 +67,118 @@ pub keeps_request : (unparsed new : Unparsed) (bytes : List ℕ) (used : UsedByt
 keeps_request unparsed new bytes used count m new_is whole is =
     keeps_found (record unparsed { buffer = drop count unparsed.buffer }) new bytes (F.Message m) used new_is whole is
 
--- all its bytes were
-pub keeps_front : (unparsed new : Unparsed) (used : UsedBytes) (n size : ℕ) (frame : Framing) (m : Message)
-    → IsBegun unparsed.limit unparsed.continued (take n unparsed.buffer) m.head frame → IsBodyText unparsed.limit frame (take size (drop n unparsed.buffer)) m.content
-    → used.items ≡ take (n + size) unparsed.buffer
-    → new ≡ record unparsed { buffer = drop (n + size) unparsed.buffer; progress = first_found (F.Message m) used } → IsFoundIn unparsed unparsed.buffer new
-keeps_front unparsed new used n size frame m begun is_body used_is new_is =
-    keeps_request unparsed new unparsed.buffer used (n + size) m new_is
-    (ap (λ l. l ++ drop (n + size) unparsed.buffer) used_is ∙ take-append-drop (n + size) unparsed.buffer)
-    (subst (λ (l : List ℕ). IsRequestText unparsed.limit unparsed.continued l m) (sym (used_is ∙ take-add n size unparsed.buffer))
-    (whole_request unparsed.limit unparsed.continued (take n unparsed.buffer) (take size (drop n unparsed.buffer)) m frame begun is_body))
+-- ---- a body of known length
 
--- a body that has not come whole is awaited
-pub waits_behind : (limit : ℕ) (continued : Bool) (bytes : List ℕ) (n : ℕ) (head : HeadParts) (frame : Framing)
-    → IsBegun limit continued (take n bytes) head frame → IsPartOfBody limit frame (drop n bytes) → Waits limit (Open continued bytes)
-waits_behind limit continued bytes n head frame begun part =
-    subst (λ (l : List ℕ). Waits limit (Open continued l)) (take-append-drop n bytes)
-    (waits_for_body limit continued (take n bytes) (drop n bytes) head frame begun part)
+all_apart : (behind buffer : List ℕ) → buffer ≡ [] → behind ≡ behind ++ buffer
+all_apart behind buffer none = sym (append-nil behind) ∙ ap (λ l. behind ++ l) (sym none)
 
--- from here on the bytes behind the head stand apart
-pub keeps_apart : (old new : Unparsed) (n : ℕ) (request : SizedRequest) → IsBegun old.limit old.continued (take n old.buffer) request.head (Length request.length)
-    → request.used.items ≡ take n old.buffer → request.behind ≡ drop n old.buffer → new ≡ record old { buffer = []; progress = Sized request }
-    → KeepsBytes old.limit old.continued old.buffer new
-keeps_apart old new n request begun used_is behind_is new_is =
-    subst (KeepsBytes old.limit old.continued old.buffer) (sym new_is) (record {
+-- none of it is in the buffer, if the body has not come whole
+pub none_apart : (size : ℕ) (behind buffer : List ℕ) → StandsApart size behind buffer → length behind < size → buffer ≡ []
+none_apart size behind buffer (inl none) less = none
+none_apart size behind buffer (inr whole) less = absurd (omega (arith, whole, less))
+
+-- nor if it is more than the body
+pub none_more : (size : ℕ) (behind buffer rest : List ℕ) → StandsApart size behind buffer → rest ≡ drop size behind → 0 < length rest → buffer ≡ []
+none_more size behind buffer rest (inl none) rest_is some = none
+none_more size behind buffer rest (inr whole) rest_is some = absurd (omega (arith, whole, some, ap length rest_is, length-drop size behind))
+
+-- the head and the bytes behind it stand apart
+pub keeps_apart : (unparsed new : Unparsed) (request : SizedRequest) → HasSizedHead unparsed.limit unparsed.continued request.used.items request.head request.length
+    → unparsed.buffer ≡ [] → new ≡ record unparsed { progress = Sized request }
+    → KeepsBytes unparsed.limit unparsed.continued (request.used.items ++ (request.behind ++ unparsed.buffer)) new
+keeps_apart unparsed new request sized none new_is =
+    subst (KeepsBytes unparsed.limit unparsed.continued (request.used.items ++ (request.behind ++ unparsed.buffer))) (sym new_is) (record {
       limit_is = refl;
       continued_is = refl;
-      bytes_are = ap (λ l. l ++ request.behind) used_is ∙ (ap (λ l. take n old.buffer ++ l) behind_is ∙ take-append-drop n old.buffer);
-      known = (refl, subst (λ (l : List ℕ). IsBegun old.limit old.continued l request.head (Length request.length)) (sym used_is) begun);
+      bytes_are = ap (λ l. request.used.items ++ l) (all_apart request.behind unparsed.buffer none);
+      known = (none, sized);
     })
 
--- a whole request was found, of which the bytes behind the head stood apart
+-- and the body has not come whole
+pub waits_apart : (unparsed new : Unparsed) (request : SizedRequest) → HasSizedHead unparsed.limit unparsed.continued request.used.items request.head request.length
+    → unparsed.buffer ≡ [] → length request.behind < request.length → new ≡ record unparsed { progress = Sized request }
+    → IsFoundIn unparsed (request.used.items ++ (request.behind ++ unparsed.buffer)) new
+waits_apart unparsed new request sized none less new_is = (
+  keeps_apart unparsed new request sized none new_is,
+  subst (λ (u : Unparsed). IsReadTo unparsed.limit unparsed.continued (request.used.items ++ (request.behind ++ unparsed.buffer)) u.progress) (sym new_is)
+      (subst (λ (l : List ℕ). Waits unparsed.limit (Open unparsed.continued (request.used.items ++ l))) (all_apart request.behind unparsed.buffer none)
+      (sized_waits unparsed.limit unparsed.continued request.used.items request.behind request.head request.length sized less)),
+)
+
+-- what is more than the body goes behind the buffer
+more_behind : (size : ℕ) (behind buffer : List ℕ) → StandsApart size behind buffer → size ≤ length behind
+    → take size behind ++ (buffer ++ drop size behind) ≡ behind ++ buffer
+more_behind size behind buffer (inl none) within =
+    ap (λ l. take size behind ++ (l ++ drop size behind)) none ∙ (take-append-drop size behind ∙ all_apart behind buffer none)
+more_behind size behind buffer (inr whole) within =
+    ap (λ l. l ++ (buffer ++ drop size behind)) (take_all size behind (omega (arith, whole)))
+    ∙ ap (λ l. behind ++ l) (ap (λ l. buffer ++ l) (drop_all size behind (omega (arith, whole))) ∙ append-nil buffer)
+
+-- the body has come whole
 pub keeps_body : (unparsed new : Unparsed) (request : SizedRequest) (used : UsedBytes) (rest : List ℕ) (m : Message)
-    → IsBegun unparsed.limit unparsed.continued request.used.items m.head (Length request.length) → request.length ≤ length request.behind
-    → used.items ≡ request.used.items ++ take request.length request.behind → rest ≡ drop request.length request.behind
-    → m.content ≡ take request.length request.behind → new ≡ record unparsed { buffer = rest; progress = first_found (F.Message m) used }
-    → IsFoundIn unparsed (request.used.items ++ request.behind) new
-keeps_body unparsed new request used rest m begun within used_is rest_is content_is new_is =
+    → HasSizedHead unparsed.limit unparsed.continued request.used.items m.head request.length → StandsApart request.length request.behind unparsed.buffer
+    → request.length ≤ length request.behind → used.items ≡ request.used.items ++ take request.length request.behind
+    → rest ≡ unparsed.buffer ++ drop request.length request.behind → m.content ≡ take request.length request.behind
+    → new ≡ record unparsed { buffer = rest; progress = first_found (F.Message m) used }
+    → IsFoundIn unparsed (request.used.items ++ (request.behind ++ unparsed.buffer)) new
+keeps_body unparsed new request used rest m sized apart within used_is rest_is content_is new_is =
     let front = request.used.items in
     let body = take request.length request.behind in
-    keeps_found (record unparsed { buffer = rest }) new (front ++ request.behind) (F.Message m) used new_is
-    (ap (λ l. l ++ rest) used_is ∙ (append_assoc front body rest ∙ ap (λ l. front ++ l) (ap (λ l. body ++ l) rest_is ∙ take-append-drop request.length request.behind)))
+    keeps_found (record unparsed { buffer = rest }) new (front ++ (request.behind ++ unparsed.buffer)) (F.Message m) used new_is
+    (ap (λ l. l ++ rest) used_is
+    ∙ (append_assoc front body rest ∙ ap (λ l. front ++ l) (ap (λ l. body ++ l) rest_is ∙ more_behind request.length request.behind unparsed.buffer apart within)))
     (subst (λ (l : List ℕ). IsRequestText unparsed.limit unparsed.continued l m) (sym used_is)
-    (whole_request unparsed.limit unparsed.continued front body m (Length request.length) begun (length-take-le request.length request.behind within, content_is)))
+    (whole_request unparsed.limit unparsed.continued front body m sized.frame sized.begun
+    (sized_body unparsed.limit sized.frame request.length request.behind m.content sized.size_is within content_is)))
+
+-- the first bytes again, by how many they are
+front_again : (n : ℕ) (bytes : List ℕ) → take (length (take n bytes)) bytes ≡ take n bytes
+front_again zero bytes = refl
+front_again (suc n) [] = refl
+front_again (suc n) (byte ∷ bytes) = ap (λ l. byte ∷ l) (front_again n bytes)
+
+-- what was copied from behind a head and what is left in the buffer
+module _ (n size come : ℕ) (bytes behind rest : List ℕ) (behind_is : behind ≡ take size (drop n bytes)) (come_is : come ≡ length behind)
+    (rest_is : rest ≡ drop (n + come) bytes) where
+  rest_behind : rest ≡ drop come (drop n bytes)
+  rest_behind = rest_is ∙ sym (drop-drop come n bytes)
+
+  pub all_there : (used : List ℕ) → used ≡ take n bytes → used ++ (behind ++ rest) ≡ bytes
+  all_there used used_is =
+      let front : behind ≡ take come (drop n bytes) =
+      behind_is ∙ (sym (front_again size (drop n bytes)) ∙ ap (λ k. take k (drop n bytes)) (sym (come_is ∙ ap length behind_is))) in
+      ap (λ l. l ++ (behind ++ rest)) used_is
+      ∙ (ap (λ l. take n bytes ++ (l ++ rest)) front ∙ (ap (λ l. take n bytes ++ (take come (drop n bytes) ++ l)) rest_behind
+      ∙ (ap (λ l. take n bytes ++ l) (take-append-drop come (drop n bytes)) ∙ take-append-drop n bytes)))
+
+  pub stands_apart : StandsApart size behind rest
+  stands_apart = elim (cases_lt (length (drop n bytes)) size) as (λ _. StandsApart size behind rest) [
+    | inl less ↦ (
+        let count : length behind ≡ length (drop n bytes) = ap length (behind_is ∙ take_all size (drop n bytes) (omega (arith, less))) in
+        inl (rest_behind ∙ drop_all come (drop n bytes) (omega (arith, count, come_is)))
+        )
+    | inr within ↦ inr (ap length behind_is ∙ length-take-le size (drop n bytes) within)
+  ]
+
+-- the bytes of a request in chunks that were used, and others behind them
+pub keeps_chunked : (unparsed : Unparsed) (request : ChunkedRequest) → ReadsChunks unparsed.limit unparsed.continued request
+    → KeepsBytes unparsed.limit unparsed.continued (request.used.items ++ unparsed.buffer) (record unparsed { progress = Chunked request })
+keeps_chunked unparsed request reads = record { limit_is = refl; continued_is = refl; bytes_are = refl; known = reads }
+
+-- the same with no others
+pub keeps_used : (unparsed : Unparsed) (request : ChunkedRequest) (bytes : List ℕ) → ReadsChunks unparsed.limit unparsed.continued request → request.used.items ≡ bytes
+    → KeepsBytes unparsed.limit unparsed.continued bytes (record unparsed { buffer = []; progress = Chunked request })
+keeps_used unparsed request bytes reads same =
+    record { limit_is = refl; continued_is = refl; bytes_are = append-nil request.used.items ∙ same; known = reads }
+
+-- where memory is refused behind a head, nothing changes
+pub unchanged : (unparsed : Unparsed) (first : FramedHead) → IsAtHead unparsed first
+    → KeepsBytes unparsed.limit unparsed.continued unparsed.buffer unparsed × BeginsWithHead unparsed.buffer
+unchanged unparsed first at = (
+  keeps_fresh unparsed.limit unparsed.continued unparsed.buffer unparsed at.fresh refl refl refl,
+  subst BeginsWithHead (take-append-drop first.length unparsed.buffer)
+      (begins_with_head unparsed.limit unparsed.continued (take first.length unparsed.buffer) (drop first.length unparsed.buffer) first.head first.framing at.begun),
+)
 
 -- where memory is refused, the reading stands where it stood
 pub stands_still : (unparsed new : Unparsed) (standing : Standing) (reading : Reading) → standing ≡ Live → reading_of standing unparsed ≡ reading

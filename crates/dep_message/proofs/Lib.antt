@@ -1,12 +1,9 @@
-pub mod Slices
-pub mod Walks
 pub mod Reading
 pub mod OneReading
 pub mod Bodies
 pub mod SearchOn
 pub mod Keeping
 pub mod Chunks
-pub mod BodyCases
 pub mod EverySpelling
 pub mod Taking
 pub mod Shown

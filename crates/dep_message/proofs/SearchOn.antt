@@ -8,7 +8,7 @@ use Rattle.dep_head.proofs.EndFinds.{end_nil}
 use Rattle.dep_head.proofs.HeadEnd.{as_mark}
 use Rattle.dep_head.proofs.MarkEnds.{end_if, end_is, none_suc}
 use Rattle.dep_message.specs.Working.{IsSearched}
-use Rattle.dep_message.proofs.Slices.{rest_is}
+use Rattle.dep_body.proofs.Slices.{rest_is}
 
 -- four bytes decide it
 begins_front : (k x : ℕ) (bytes : List ℕ)

@@ -1,11 +1,11 @@
 -- What was found first is shown or taken.
-use Rattle.std.proofs.Common.{◌≡◌, ◌⊎◌, inl, inr, ℕ, Bool, true, false, List, ◌++◌, Some, refl, sym, ap, subst, ◌∙◌}
+use Rattle.std.proofs.Common.{◌≡◌, ◌⊎◌, inl, inr, ℕ, Bool, true, false, List, ◌++◌, Option, Some, refl, sym, ap, subst, ◌∙◌}
 use Rattle.dep_message.specs.Giving.{GivesStep}
 use Rattle.dep_message.specs.Heads.{closes}
 use Rattle.dep_message.specs.Places.{Place, Open, Reading}
 use Rattle.dep_message.specs.Showing.{IsNoRequest, ShowsNext}
 use Rattle.dep_message.specs.Stream.{Fault, Continue, Request, FirstAt, Waits, after_item}
-use Rattle.dep_message.specs.Working.{FindsFirst, IsItem, IsKnownProgress, IsReadTo, KeepsBytes, ShowsFound, bytes_with}
+use Rattle.dep_message.specs.Working.{FindsFirst, IsItem, IsKnownProgress, IsReadTo, KeepsBytes, ShowsFound, bytes_with, kept_bytes}
 use Rattle.dep_message.specs.declared.intake.Step.{Step}
 use Rattle.dep_message.specs.declared.intake.Step.TheVariants as S
 use Rattle.dep_message.specs.declared.message.Message.{Message}
@@ -86,6 +86,14 @@ takes_found unparsed used F.Continue is progress fresh reported (inl t) =
 takes_found unparsed used F.Continue is progress fresh reported (inr t) = absurd (t.0 refl)
 takes_found unparsed used (F.Fault refusal head_only) is progress fresh reported t =
     (is, refl, (keeps_fresh unparsed.limit reported unparsed.buffer (record unparsed { progress = progress; continued = reported }) fresh refl refl refl).known)
+
+-- by the bytes that are kept
+pub found_in : (limit : ℕ) (continued : Bool) (bytes : List ℕ) (unparsed new : Unparsed) (found : Option Found) → KeepsBytes limit continued bytes unparsed
+    → FindsFirst unparsed.limit unparsed.continued (kept_bytes unparsed) new found → FindsFirst limit continued bytes new found
+found_in limit continued bytes unparsed new found keeps f =
+    subst (λ (l : ℕ). FindsFirst l continued bytes new found) keeps.limit_is
+    (subst (λ (b : Bool). FindsFirst unparsed.limit b bytes new found) keeps.continued_is
+    (subst (λ (l : List ℕ). FindsFirst unparsed.limit unparsed.continued l new found) keeps.bytes_are f))
 
 -- behind a preview the next step is the request that was shown
 pub shown_next : (old new : Reading) (m : Message) (next : Place) (step : Step) → FirstAt old.limit old.place (Request m) next → GivesStep old new step

@@ -1,5 +1,5 @@
 -- Words of private functions: the bytes that are kept, and what is known of the first request of them.
-use Rattle.std.specs.Prelude.{◌≡◌, ℕ, ◌<◌, ◌≤◌, Bool, true, false, List, [], ◌++◌, length, take, None, Some, Option, Result, Ok, MatchResult}
+use Rattle.std.specs.Prelude.{◌≡◌, ◌⊎◌, ℕ, ◌<◌, ◌≤◌, Bool, true, false, List, [], ◌++◌, length, take, None, Some, Option, Result, Ok, MatchResult}
 use Rattle.std.specs.declared.alloc.AllocError.{AllocError}
 use Rattle.dep_head.specs.Head.{HeadParts, IsHeadText, head_end, head_limit}
 use Rattle.dep_body.specs.Framing.{framing}
@@ -23,7 +23,7 @@ use Rattle.dep_message.specs.declared.progress.Found.{Found}
 use Rattle.dep_message.specs.declared.progress.Found.TheVariants as F
 use Rattle.dep_message.specs.declared.progress.Progress.{Progress}
 use Rattle.dep_message.specs.declared.progress.Progress.TheVariants.{Searched, Sized, Chunked, First}
-use Rattle.dep_message.specs.declared.used.UsedBytes.{UsedBytes}
+use Rattle.dep_body.specs.declared.used.UsedBytes.{UsedBytes}
 use Rattle.dep_message.specs.declared.unparsed.Unparsed.{Unparsed}
 
 -- no head ends in so many bytes
@@ -37,6 +37,23 @@ pub record IsBegun (limit : ℕ) (continued : Bool) (front : List ℕ) (head : H
   pub is_head : IsHeadText front head
   pub framed : framing limit head ≡ Ok frame
   pub due_is : is_due continued head frame ≡ false
+
+-- a body framed so has just so many bytes
+abbrev pub HasBodySize : Framing → ℕ → Type 0
+HasBodySize Empty size = size ≡ 0
+HasBodySize (Length n) size = size ≡ n
+HasBodySize InChunks size = ⊥
+
+-- a head whose body has just so many bytes
+pub record HasSizedHead (limit : ℕ) (continued : Bool) (front : List ℕ) (head : HeadParts) (size : ℕ)
+    : Type 0 where
+  pub frame : Framing
+  pub begun : IsBegun limit continued front head frame
+  pub size_is : HasBodySize frame size
+
+-- the bytes behind a head, of which those in the buffer are the last: none are there, unless the others are just the body
+abbrev pub StandsApart : (size : ℕ) → (behind buffer : List ℕ) → Type 0
+StandsApart size behind buffer = (buffer ≡ []) ⊎ (length behind ≡ size)
 
 -- the bytes that were used are the head, and behind it what the reader was fed, which is no whole body in chunks
 pub record ReadsChunks (limit : ℕ) (continued : Bool) (request : ChunkedRequest) : Type 0 where
@@ -75,7 +92,7 @@ IsFirstItem limit continued buffer first = IsItem limit continued first.used.ite
 abbrev pub IsKnownProgress : ℕ → Bool → List ℕ → Progress → Type 0
 IsKnownProgress limit continued buffer (Searched n) = IsSearched n buffer
 IsKnownProgress limit continued buffer (Sized request) =
-    (buffer ≡ []) × IsBegun limit continued request.used.items request.head (Length request.length)
+    (buffer ≡ []) × HasSizedHead limit continued request.used.items request.head request.length
 IsKnownProgress limit continued buffer (Chunked request) = ReadsChunks limit continued request
 IsKnownProgress limit continued buffer (First first) = IsFirstItem limit continued buffer first
 
@@ -93,12 +110,6 @@ pub record IsAtHead (unparsed : Unparsed) (first : FramedHead) : Type 0 where
   pub fresh : IsUnsearched unparsed
   pub within : first.length ≤ length unparsed.buffer
   pub begun : IsBegun unparsed.limit unparsed.continued (take first.length unparsed.buffer) first.head first.framing
-
--- a body framed so has just so many bytes
-abbrev pub HasBodySize : Framing → ℕ → Type 0
-HasBodySize Empty size = size ≡ 0
-HasBodySize (Length n) size = size ≡ n
-HasBodySize InChunks size = ⊥
 
 -- what the intake knows of the first request in its buffer is so
 abbrev pub IsWorking : Unparsed → Type 0
@@ -145,9 +156,6 @@ IsReadTo limit continued bytes (Searched n) = Waits limit (Open continued bytes)
 IsReadTo limit continued bytes (Sized request) = Waits limit (Open continued bytes)
 IsReadTo limit continued bytes (Chunked request) = Waits limit (Open continued bytes)
 IsReadTo limit continued bytes (First first) = Unit {0}
-
-abbrev pub IsReadOn : Unparsed → Type 0
-IsReadOn unparsed = IsReadTo unparsed.limit unparsed.continued (kept_bytes unparsed) unparsed.progress
 
 -- the same bytes are kept, and the first item was read as far as they go: for lack of memory it isn't,
 -- and a head is there to be copied

@@ -41,14 +41,13 @@ pub(crate) fn awaits_continue(head: &Head, framing: Framing) -> bool
     ensures { result ≡ spec.awaits_continue head.now framing }
 {
     let mut expectations = head.values("Expect");
-    match (expectations.next(), expectations.next()) {
-        (Some(value), None) => {
-            head.minor_version() == 1
-                && value.eq_ignore_ascii_case(b"100-continue")
-                && has_body(framing)
-        }
-        _ => false,
-    }
+    let Some(value) = expectations.next() else {
+        return false;
+    };
+    expectations.next().is_none()
+        && head.minor_version() == 1
+        && value.eq_ignore_ascii_case(b"100-continue")
+        && has_body(framing)
 }
 
 fn has_body(framing: Framing) -> bool
@@ -59,14 +58,4 @@ fn has_body(framing: Framing) -> bool
         Framing::Length(length) => length > 0,
         Framing::Chunked => true,
     }
-}
-
-/// Whether the octets of a content are hashed as they come: those of a segment only where its head promises a
-/// digest, since nothing asks for them else. It decides when they are hashed, and no reply.
-pub(crate) fn is_hashed_early(head: &Head) -> bool {
-    let is_segment = match head.values("Content-Disposition").next() {
-        Some(value) => value.starts_with(b"segment"),
-        None => false,
-    };
-    !is_segment || head.values("Digest").next().is_some()
 }

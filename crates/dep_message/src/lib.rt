@@ -1,7 +1,6 @@
 //! The messages of a connection: its bytes come in pieces, and whole requests are taken from them (RFC 9112).
 #![tactic(auto)]
 
-mod buffer;
 mod first;
 mod heads;
 mod intake;
@@ -10,7 +9,6 @@ mod message;
 mod preview;
 mod progress;
 mod unparsed;
-mod used;
 
 pub use heads::{closes, is_without_body};
 pub use intake::{Intake, Step};

@@ -4,15 +4,14 @@ ghost use Rattle.dep_message.specs.Working.{ShowsFound};
 
 use crate::message::Message;
 use crate::preview::Preview;
-use crate::used::UsedBytes;
-use dep_body::ChunkReader;
+use dep_body::{ChunkReader, UsedBytes};
 use dep_fixity::HashedOctets;
 use dep_head::Head;
 use dep_types::Refusal;
 use std::alloc::AllocError;
 use std::mem;
 
-/// A request whose body has a known length, and had not come whole with its head.
+/// A request whose body has a known length.
 #[derive(Drop)]
 pub(crate) struct SizedRequest {
     pub head: Head,

@@ -1,21 +1,17 @@
 //! The bytes of a connection that no item has used, and what is known of them.
-ghost use Rattle.std.specs.Prelude.{◌≡◌, [], ◌++◌, Some, false, IfOk, OnOk, OnErr, MatchResult};
+ghost use Rattle.std.specs.Prelude.{◌≡◌, [], ◌++◌, false, OnOk, OnErr, MatchResult};
 ghost use Rattle.dep_message.specs.Giving.{BeginsWithHead};
-ghost use Rattle.dep_message.specs.Heads.{is_head_only};
 ghost use Rattle.dep_message.specs.Places.{Open};
 ghost use Rattle.dep_message.specs.Showing.{ShowsNext};
-ghost use Rattle.dep_message.specs.Stream.{frame_refusal};
-ghost use Rattle.dep_message.specs.Working.{HasLeft, HasBodySize, FindsHead, IsAtHead, IsReadOn, KeepsBytes, FindsFirst, FindsNext, ReadsOn, IsSearched, IsWorking, first_found, kept_bytes};
-ghost use Rattle.dep_message.specs.declared.progress.Progress.TheVariants.{Searched, Sized, Chunked};
+ghost use Rattle.dep_message.specs.Working.{HasLeft, HasBodySize, HasSizedHead, IsAtHead, KeepsBytes, FindsNext, ReadsOn, StandsApart, IsWorking, first_found, kept_bytes};
+ghost use Rattle.dep_message.specs.declared.progress.Progress.TheVariants.{Searched, Chunked};
 
-use crate::buffer::Buffer;
 use crate::first::{FirstHead, FramedHead, SearchedBytes, first_head, refusal_for};
-use crate::heads::{is_hashed_early, is_without_body};
+use crate::heads::is_without_body;
 use crate::message::Message;
 use crate::preview::Preview;
 use crate::progress::{ChunkedRequest, FirstItem, Found, Progress, SizedRequest};
-use crate::used::UsedBytes;
-use dep_body::{ChunkReader, Fed, FrameFault, Framing};
+use dep_body::{Buffer, ChunkReader, Fed, FrameFault, Framing, UsedBytes, is_hashed_early};
 use dep_fixity::HashedOctets;
 use dep_head::Head;
 use std::alloc::{AllocError, Global};
@@ -66,7 +62,16 @@ impl Unparsed {
         ensures { FindsNext self.old (kept_bytes self.old) self.new result }
     {
         self.read_on()?;
-        Ok(self.take())
+        match mem::replace(&mut self.progress, Progress::Searched(0)) {
+            Progress::First(first) => {
+                self.continued = matches!(first.item, Found::Continue);
+                Ok(Some(first.item))
+            }
+            other => {
+                self.keep_place(other);
+                Ok(None)
+            }
+        }
     }
 
     /// Shows the first request, where it has come whole, and takes nothing. It returns whether one was shown.
@@ -82,24 +87,6 @@ impl Unparsed {
         match &mut self.progress {
             Progress::First(first) => Ok(first.show(by)),
             _ => Ok(false),
-        }
-    }
-
-    // Takes the first item, where one was found.
-    fn take(&mut self) -> Option<Found>
-        requires known { IsWorking self.old }
-        requires read { IsReadOn self.old }
-        ensures { FindsFirst self.old.limit self.old.continued (kept_bytes self.old) self.new result }
-    {
-        match mem::replace(&mut self.progress, Progress::Searched(0)) {
-            Progress::First(first) => {
-                self.continued = matches!(first.item, Found::Continue);
-                Some(first.item)
-            }
-            other => {
-                self.keep_place(other);
-                None
-            }
         }
     }
 
@@ -126,22 +113,18 @@ impl Unparsed {
     {
         let bytes = self.buffer.as_slice();
         let front = SearchedBytes { bytes, searched };
-        match first_head(self.alloc, self.limit, self.continued, front)? {
+        let item = match first_head(self.alloc, self.limit, self.continued, front)? {
+            FirstHead::Head(first) => return self.begin(first),
             FirstHead::Nothing => {
                 let searched = bytes.len();
                 self.keep_place(Progress::Searched(searched));
-                Ok(())
+                return Ok(());
             }
-            FirstHead::Fault(refusal, head_only) => {
-                self.keep_found(Found::Fault(refusal, head_only), UsedBytes::new());
-                Ok(())
-            }
-            FirstHead::Continue => {
-                self.keep_found(Found::Continue, UsedBytes::new());
-                Ok(())
-            }
-            FirstHead::Head(first) => self.begin(first),
-        }
+            FirstHead::Fault(refusal, head_only) => Found::Fault(refusal, head_only),
+            FirstHead::Continue => Found::Continue,
+        };
+        self.keep_found(item, UsedBytes::new());
+        Ok(())
     }
 
     // Reads the body behind the first head.
@@ -152,7 +135,15 @@ impl Unparsed {
         match first.framing {
             Framing::Empty => self.begin_sized(first, 0),
             Framing::Length(length) => self.begin_sized(first, length as usize),
-            Framing::Chunked => self.begin_chunks(first),
+            Framing::Chunked => {
+                let used = self.buffer.drop_front(first.length);
+                let is_hashed = is_hashed_early(&first.head);
+                self.read_chunks(ChunkedRequest {
+                    head: first.head,
+                    used,
+                    reader: ChunkReader::new(self.alloc, self.limit, is_hashed),
+                })
+            }
         }
     }
 
@@ -162,47 +153,27 @@ impl Unparsed {
         ensures { ReadsOn self.old self.old.buffer self.new result }
     {
         let content = self.buffer.copy_behind(first.length, size)?;
-        let octets = HashedOctets::from_vec(content);
-        let come = octets.as_slice().len();
-        if come == size {
-            let used = self.buffer.drop_front(first.length + size);
-            let message = Message {
-                head: first.head,
-                content: octets,
-            };
-            self.keep_found(Found::Message(message), used);
-            return Ok(());
-        }
-        let front = self.buffer.drop_front(first.length);
-        self.buffer.drop_front(come);
-        self.keep_place(Progress::Sized(SizedRequest {
-            is_hashed: is_hashed_early(&first.head),
-            head: first.head,
-            used: front,
-            length: size,
-            behind: octets,
-        }));
-        Ok(())
-    }
-
-    fn begin_chunks(&mut self, first: FramedHead) -> Result<(), AllocError>
-        requires head { IsAtHead self.old first }
-        requires chunked { first.framing ≡ Framing.Chunked }
-        ensures { ReadsOn self.old self.old.buffer self.new result }
-    {
-        let used = self.buffer.drop_front(first.length);
-        let is_hashed = is_hashed_early(&first.head);
-        self.read_chunks(ChunkedRequest {
+        let behind = HashedOctets::from_vec(content);
+        let come = behind.as_slice().len();
+        let used = UsedBytes::new().and(&self.buffer.as_slice()[..first.length]);
+        self.buffer.drop_front(first.length + come);
+        self.read_sized(SizedRequest {
+            is_hashed: come < size && is_hashed_early(&first.head),
             head: first.head,
             used,
-            reader: ChunkReader::new(self.alloc, self.limit, is_hashed),
+            length: size,
+            behind,
         })
     }
 
-    // Reads on where the head was used, and the bytes behind it stand apart.
+    // Reads on where the head was used, and the bytes behind it stand apart. The buffer has none where they may be more or
+    // less than the body.
     fn read_sized(&mut self, mut request: SizedRequest) -> Result<(), AllocError>
-        requires { HasLeft self.old (Sized request) }
-        ensures { ReadsOn self.old (request.used.items ++ request.behind) self.new result }
+        requires sized { HasSizedHead self.old.limit self.old.continued
+            request.used.items request.head request.length }
+        requires apart { StandsApart request.length request.behind self.old.buffer }
+        ensures { ReadsOn self.old (request.used.items ++ (request.behind ++ self.old.buffer))
+            self.new result }
     {
         if request.behind.as_slice().len() < request.length {
             self.keep_place(Progress::Sized(request));
@@ -233,18 +204,21 @@ impl Unparsed {
         ensures { ReadsOn self.old (request.used.items ++ self.old.buffer) self.new result }
     {
         let bytes = self.buffer.as_slice();
-        match request.reader.feed(bytes) {
+        let fed = match request.reader.feed(bytes) {
+            Ok(fed) => fed,
             Err(error) => {
                 self.keep_place(Progress::Chunked(request));
-                Err(error)
+                return Err(error);
             }
-            Ok(Fed::More) => {
+        };
+        let fault = match fed {
+            Fed::More => {
                 request.used = request.used.and(bytes);
                 self.buffer.clear();
                 self.keep_place(Progress::Chunked(request));
-                Ok(())
+                return Ok(());
             }
-            Ok(Fed::Done(count)) => {
+            Fed::Done(count) => {
                 let used = request.used.and(&bytes[..count]);
                 self.buffer.drop_front(count);
                 let message = Message {
@@ -252,30 +226,14 @@ impl Unparsed {
                     content: request.reader.content(),
                 };
                 self.keep_found(Found::Message(message), used);
-                Ok(())
+                return Ok(());
             }
-            Ok(Fed::Bad) => {
-                self.keep_fault(request, FrameFault::Bad);
-                Ok(())
-            }
-            Ok(Fed::TooLarge) => {
-                self.keep_fault(request, FrameFault::TooLarge);
-                Ok(())
-            }
-        }
-    }
-
-    // Keeps the fault of a body in chunks.
-    fn keep_fault(&mut self, request: ChunkedRequest, fault: FrameFault)
-        ensures { self.new ≡ record self.old {
-          progress = first_found (Found.Fault (frame_refusal fault) (is_head_only request.head)) request.used;
-        } }
-    {
-        let ChunkedRequest { head, used, reader } = request;
-        let item = Found::Fault(refusal_for(fault), is_without_body(&head));
-        drop(head);
-        drop(reader);
-        self.keep_found(item, used);
+            Fed::Bad => FrameFault::Bad,
+            Fed::TooLarge => FrameFault::TooLarge,
+        };
+        let item = Found::Fault(refusal_for(fault), is_without_body(&request.head));
+        self.keep_found(item, request.used);
+        Ok(())
     }
 
     fn keep_found(&mut self, item: Found, used: UsedBytes)

@@ -1,5 +1,5 @@
 //! Bytes that come at the end and go at the front.
-ghost use Rattle.std.specs.Prelude.{◌≡◌, ◌≤◌, ◌++◌, [], length, take, drop, IfOk, OnOk, OnErr};
+ghost use Rattle.std.specs.Prelude.{◌≡◌, ◌<◌, ◌≤◌, ◌++◌, [], length, take, drop, IfOk, OnOk, OnErr};
 
 use crate::used::UsedBytes;
 use std::alloc::{AllocError, Global};
@@ -8,7 +8,7 @@ use std::marker::Model;
 /// Bytes that come at the end and go at the front. What is left isn't moved when some go, until it is less than a
 /// quarter of the room.
 #[derive(Drop)]
-pub(crate) struct Buffer {
+pub struct Buffer {
     alloc: Global,
     bytes: Vec<u8>,
     /// How many of the bytes, at the front, are gone.
@@ -44,10 +44,11 @@ impl Buffer {
         &self.bytes.as_slice()[self.gone..]
     }
 
-    /// Adds a piece at the end.
+    /// Adds a piece at the end. An `Err` is lack of memory, and changes nothing.
     pub fn append(&mut self, piece: &[u8]) -> Result<(), AllocError>
         ensures ok { OnOk result (self.new ≡ self.old ++ piece.now) }
         ensures err { OnErr result (self.new ≡ self.old) }
+        ensures wanted { OnErr result (0 < length piece.now) }
     {
         self.bytes.extend_from_slice(piece)
     }

@@ -1,7 +1,7 @@
 use Rattle.std.proofs.Common.{◌≡◌, ◌∙◌, take, drop}
 use Rattle.std.proofs.lemmas.Result.{IfOk-weaker}
-use Rattle.dep_message.proofs.Slices.{come_is}
-use Rattle.dep_message.proofs.buffer.Buffer.copy_behind.Goals as goal
+use Rattle.dep_body.proofs.Slices.{come_is}
+use Rattle.dep_body.proofs.buffer.Buffer.copy_behind.Goals as goal
 
 pub returns : goal.returns
 returns c =

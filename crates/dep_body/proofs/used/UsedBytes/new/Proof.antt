@@ -23,12 +23,12 @@ use denote.Triple.Entry.{alive}
 use denote.Triple.Spec.{Meets, triple_of}
 use denote.Triple.Table.{entered}
 use denote.Triple.Walked.{says, Stays, walk_of, ends_at, walk_Meets}
-use Rattle.dep_message.proofs.Walks.{none, none_made}
-use Rattle.dep_message.specs.contracts.used.UsedBytes as UsedBytes
-use Rattle.dep_message.specs.contracts.used.UsedBytes.new as F
-use Rattle.dep_message.specs.contracts.used.UsedBytes.new.Key.{name as #self}
-use Rattle.dep_message.proofs.used.UsedBytes.new.Statement as stated
-use Rattle.dep_message.proofs.used.UsedBytes.new.Code as code
+use Rattle.dep_body.proofs.Walks.{none, none_made}
+use Rattle.dep_body.specs.contracts.used.UsedBytes as UsedBytes
+use Rattle.dep_body.specs.contracts.used.UsedBytes.new as F
+use Rattle.dep_body.specs.contracts.used.UsedBytes.new.Key.{name as #self}
+use Rattle.dep_body.proofs.used.UsedBytes.new.Statement as stated
+use Rattle.dep_body.proofs.used.UsedBytes.new.Code as code
 
 abbrev function : Fn
 function = code.function

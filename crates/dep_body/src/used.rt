@@ -5,10 +5,10 @@ ghost use Rattle.std.specs.Borrow.{ftrue};
 use std::marker::Model;
 
 /// Bytes that were used and are in memory no more. Proofs alone read them: it takes no memory, and its functions do
-/// nothing. Nothing here ties it to what came. The clauses of `Intake` do: `feed` adds just the piece to the bytes that an
-/// intake represents, and what `next` gives is spelled by them.
+/// nothing. Nothing here ties it to what came: the clauses of what keeps it do.
 #[derive(Drop)]
-pub(crate) struct UsedBytes {
+pub struct UsedBytes {
+    /// The bytes, in the order in which they were used.
     pub ghost items: { List ℕ },
 }
 

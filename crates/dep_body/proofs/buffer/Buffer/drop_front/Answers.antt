@@ -1,6 +1,6 @@
 use Rattle.std.proofs.Common.{rules, List, ℕ, ◌++◌, ◌∙◌, ap, take}
 use Rattle.std.proofs.lemmas.List.{drop-drop}
-use Rattle.dep_message.proofs.buffer.Buffer.drop_front.Goals as goal
+use Rattle.dep_body.proofs.buffer.Buffer.drop_front.Goals as goal
 
 pub returns-clause-used : goal.returns-clause-used
 returns-clause-used c =
