@@ -154,6 +154,22 @@ two_behind limit content text a b h =
     (append_assoc (line_text h.line) (h.bytes ++ a ∷ []) (b ∷ []) ∙ ap (λ t. line_text h.line ++ t) (append_assoc h.bytes (a ∷ []) (b ∷ [])))
     (chunks_more limit text h.before _ (b ∷ []) h.chunks)
 
+-- behind the bytes of a chunk the first byte of its CR LF has come
+pub end_begins : (limit : ℕ) (content text : List ℕ) (b : ℕ) → IsBehindData limit content None text → IsBehindData limit content (Some b) (text ++ b ∷ [])
+end_begins limit content text b h = record {
+  before = h.before;
+  line = h.line;
+  bytes = h.bytes;
+  chunks =
+      chunks_rest limit _ h.before _ _
+      (append_assoc (line_text h.line) (h.bytes ++ []) (b ∷ []) ∙ ap (λ t. line_text h.line ++ (t ++ b ∷ [])) (append-nil h.bytes))
+      (chunks_more limit text h.before _ (b ∷ []) h.chunks);
+  size = h.size;
+  some = h.some;
+  room = h.room;
+  content_is = h.content_is;
+}
+
 pub end_joins : (limit : ℕ) (content text : List ℕ) (next : SizeLine) → IsBehindData limit content (Some 13) text
     → next.length ≡ 0 → next.after_cr ≡ false → next.reading ≡ Start → IsInLine limit content next (text ++ 10 ∷ [])
 end_joins limit content text next h length_is cr_is reading_is =

@@ -18,18 +18,13 @@ pub fn framing(head: &Head, max_upload: u64) -> Result<Framing, FrameFault>
 {
     let mut lengths = head.values("Content-Length");
     let mut codings = head.values("Transfer-Encoding");
-    match (
-        lengths.next(),
-        lengths.next(),
-        codings.next(),
-        codings.next(),
-    ) {
-        (None, _, None, _) => Ok(Framing::Empty),
-        (Some(length), None, None, _) => length_of(length, max_upload),
-        (None, _, Some(coding), None)
-            if head.minor_version() == 1 && coding.eq_ignore_ascii_case(b"chunked") => {
-            Ok(Framing::Chunked)
-        }
+    match (lengths.next(), codings.next()) {
+        (None, None) => Ok(Framing::Empty),
+        (Some(length), None) if lengths.next().is_none() => length_of(length, max_upload),
+        (None, Some(coding))
+            if codings.next().is_none()
+                && head.minor_version() == 1
+                && coding.eq_ignore_ascii_case(b"chunked") => Ok(Framing::Chunked),
         _ => Err(FrameFault::Bad),
     }
 }

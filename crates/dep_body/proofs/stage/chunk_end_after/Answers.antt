@@ -1,7 +1,11 @@
 use Rattle.std.proofs.Common.{◌++◌, ◌∷◌, [], ap, subst, sym, ◌∙◌, Some}
 use Rattle.dep_body.specs.Standing.{IsBehindData, IsInLine}
-use Rattle.dep_body.proofs.SizeSteps.{end_joins, end_fails, both_true, is_ten, is_thirteen, both_are}
+use Rattle.dep_body.proofs.SizeSteps.{end_begins, end_joins, end_fails, both_true, is_ten, is_thirteen, both_are}
 use Rattle.dep_body.proofs.stage.chunk_end_after.Goals as goal
+
+pub returns-in_default : goal.returns-in_default
+returns-in_default c = λ limit text content h.
+    end_begins limit content text c.args.byte (subst (λ b. IsBehindData limit content b text) c.in_default.is h)
 
 pub returns-then-not-ends_line : goal.returns-then-not-ends_line
 returns-then-not-ends_line c = λ limit text content h.
