@@ -166,8 +166,8 @@ impl Unparsed {
         })
     }
 
-    // Reads on where the head was used, and the bytes behind it stand apart. The buffer has none where they may be more or
-    // less than the body.
+    // Reads on where the head was used, and the bytes behind it stand apart: the buffer is empty, unless they are just the
+    // body.
     fn read_sized(&mut self, mut request: SizedRequest) -> Result<(), AllocError>
         requires sized { HasSizedHead self.old.limit self.old.continued
             request.used.items request.head request.length }
