@@ -1,14 +1,11 @@
 //! The tables of a new store, and their first rows, beside what is there.
 
-ghost use Rattle.std.specs.Prelude.{[]};
 ghost use Rattle.dep_statements.specs.Adding.{AddsAll};
 ghost use Rattle.dep_tables.specs.Schema.{our_tables};
-ghost use Rattle.dep_tables.specs.Clauses.{FailsToRun};
 ghost use Rattle.dep_migrations.specs.Faults.{FailsToCreate, FailsToAddRows, FailsToMake};
-ghost use Rattle.dep_migrations.specs.Texts.{add_format_text, add_state_text};
-ghost use Rattle.dep_migrations.specs.Running.{HasRun, TurnsDatabase, WorksWithin};
+ghost use Rattle.dep_migrations.specs.Running.{TurnsDatabase, WorksWithin};
 ghost use Rattle.dep_migrations.specs.FirstTables.{GainsOurs};
-ghost use Rattle.dep_migrations.specs.Making.{FillsOurs, MakesFirst, PutsFormat, PutsState, PutsFirstRows};
+ghost use Rattle.dep_migrations.specs.Making.{FillsOurs, MakesFirst, PutsFirstRows};
 
 use crate::indexing::create_indexes;
 use dep_tables::Statements;
@@ -42,28 +39,6 @@ const TABLES: [&str; 10] = [
     SHA512S,
 ];
 
-/// Version 2.
-fn add_format<T: Statements>(tx: &mut T) -> Result<(), StoreFault>
-    ensures beside { FillsOurs (T.state tx.old) (T.state tx.new) result PutsFormat }
-    ensures ran { HasRun add_format_text (T.state tx.old) (T.state tx.new) result }
-    ensures works { WorksWithin T.lenders T.state tx.old tx.new result
-        (FailsToRun add_format_text [] (T.state tx.old) (T.state tx.new)) }
-{
-    tx.run("INSERT INTO format (id, version) VALUES (1, 2)", &[])
-}
-
-/// The clock at 0, and each counter at 1.
-fn add_state<T: Statements>(tx: &mut T) -> Result<(), StoreFault>
-    ensures beside { FillsOurs (T.state tx.old) (T.state tx.new) result PutsState }
-    ensures works { WorksWithin T.lenders T.state tx.old tx.new result
-        (FailsToRun add_state_text [] (T.state tx.old) (T.state tx.new)) }
-{
-    tx.run(
-        "INSERT INTO state (id, clock, next_object, next_file, next_upload, next_change) VALUES (1, 0, 1, 1, 1, 1)",
-        &[],
-    )
-}
-
 /// All tables, one after another.
 fn create_tables<T: Statements>(tx: &mut T) -> Result<(), StoreFault>
     ensures adds { TurnsDatabase (T.state tx.old) (T.state tx.new) result (AddsAll our_tables) }
@@ -82,8 +57,13 @@ fn add_rows<T: Statements>(tx: &mut T) -> Result<(), StoreFault>
     ensures works { WorksWithin T.lenders T.state tx.old tx.new result
         (FailsToAddRows T.state tx.old tx.new) }
 {
-    add_format(tx)?;
-    add_state(tx)
+    // Version 2.
+    tx.run("INSERT INTO format (id, version) VALUES (1, 2)", &[])?;
+    // The clock at 0, and each counter at 1.
+    tx.run(
+        "INSERT INTO state (id, clock, next_object, next_file, next_upload, next_change) VALUES (1, 0, 1, 1, 1, 1)",
+        &[],
+    )
 }
 
 /// The tables of a new store and their indexes, where their names are free.

@@ -1,33 +1,20 @@
 //! The tables of version 1 become those of version 2.
 
-ghost use Rattle.std.specs.Prelude.{[], IsTrue, OnOk};
+ghost use Rattle.std.specs.Prelude.{IsTrue, OnOk};
 ghost use Rattle.sqlite.specs.State.{HasCleanDisk};
-ghost use Rattle.dep_statements.specs.Adding.{Adds};
-ghost use Rattle.dep_tables.specs.Schema.{sha512s_table};
 ghost use Rattle.dep_tables.specs.Tables.{tables_of, IsOlder};
-ghost use Rattle.dep_tables.specs.Clauses.{FailsToRun};
 ghost use Rattle.dep_row_maps.specs.Clauses.{Becomes};
 ghost use Rattle.dep_row_maps.specs.Sha512s.{upgraded};
 ghost use Rattle.dep_migrations.specs.Beside.{AreNewNamesFree};
 ghost use Rattle.dep_migrations.specs.Causes.{FailsSince};
 ghost use Rattle.dep_migrations.specs.FirstTables.{SeesTables};
 ghost use Rattle.dep_migrations.specs.Running.{TurnsDatabase, WorksWithin};
-ghost use Rattle.dep_migrations.specs.Texts.{create_sha512s_text};
 ghost use Rattle.dep_migrations.specs.Upgrading.{with_no_sha512s, with_sha512s, FailsToExtend, FailsToPut, FailsToRewrite};
 
 use crate::indexing::create_indexes;
 use crate::making::SHA512S;
 use dep_tables::{BlockOwner, FileSha512, Statements, insert_sha512, write_version};
 use dep_types::StoreFault;
-
-/// The table `sha512s`, beside what is there.
-fn create_sha512s<T: Statements>(tx: &mut T) -> Result<(), StoreFault>
-    ensures adds { TurnsDatabase (T.state tx.old) (T.state tx.new) result (Adds sha512s_table) }
-    ensures works { WorksWithin T.lenders T.state tx.old tx.new result
-        (FailsToRun create_sha512s_text [] (T.state tx.old) (T.state tx.new)) }
-{
-    tx.run(SHA512S, &[])
-}
 
 /// What version 2 has beside the tables of version 1: the table `sha512s`, empty, and the indexes.
 fn extend_schema<T: Statements>(tx: &mut T) -> Result<(), StoreFault>
@@ -39,7 +26,7 @@ fn extend_schema<T: Statements>(tx: &mut T) -> Result<(), StoreFault>
     ensures works { WorksWithin T.lenders T.state tx.old tx.new result
         (FailsToExtend T.state tx.old tx.new) }
 {
-    create_sha512s(tx)?;
+    tx.run(SHA512S, &[])?;
     create_indexes(tx)
 }
 

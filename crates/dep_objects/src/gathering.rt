@@ -27,6 +27,7 @@ fn begin(alloc: Global, metadata: &Metadata, row: MetadataRow) -> Result<NamedTe
     ensures name { IfOk result (λ now. now.name ≡ row.name) }
 {
     if metadata.get(row.name.as_str()).is_some() {
+        drop(row);
         return Err(StoreFault::Store);
     }
     let mut texts = Vec::new(alloc);

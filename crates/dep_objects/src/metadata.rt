@@ -44,7 +44,10 @@ fn put_texts<T: Statements>(
         if place >= LIMIT {
             return Err(StoreFault::Store);
         }
-        insert_metadata(tx, &text_row(alloc, object, &entry.name, place, text)?)?;
+        let row = text_row(alloc, object, &entry.name, place, text)?;
+        let inserted = insert_metadata(tx, &row);
+        drop(row);
+        inserted?;
         place += 1;
     }
     Ok(())

@@ -1,25 +1,35 @@
-use Rattle.std.proofs.Common.{rules, inl, inr}
+use Rattle.std.proofs.Common.{inl, inr, ◌∙◌}
 use Rattle.dep_tables.proofs.Chains.{clean_before, stays_then}
-use Rattle.dep_tables.proofs.Results.{if_err}
+use Rattle.dep_tables.proofs.Results.{if_err, ok_then}
+use Rattle.dep_migrations.proofs.BesideRows.{puts_format, puts_state}
 use Rattle.dep_migrations.proofs.Causes.{works_failed}
 use Rattle.dep_migrations.proofs.making.add_rows.Goals as goal
 
 pub returns-clause-beside : goal.returns-clause-beside
-returns-clause-beside g c clean inside others free here = search rules
+returns-clause-beside g c clean inside others free here =
+    let old = g.T.Statements.state c.args.tx.now in
+    let mid = g.T.Statements.state c.run.new.self in
+    let new = g.T.Statements.state c.run-2.new.self in
+    let first = c.in_ok-run.ensures in
+    let before = clean_before c.run-2.ensures.keeps.stays clean in
+    let ran = first.runs before inside in
+    let put = puts_format others free old mid ran.0 here ran.1 in
+    ok_then c.run-2.result (c.run-2.ensures.runs clean (first.keeps.stays.inside before inside))
+    (λ next. (mid.now, put, puts_state others free mid new next.0 (put.schema ∙ here) next.1))
 
-pub returns-in_err-add_format-clause-works : goal.returns-in_err-add_format-clause-works
-returns-in_err-add_format-clause-works g c =
-    works_failed c.from_residual.result c.in_err-add_format.field-0.0 c.from_residual.ensures.0 c.from_residual.ensures.1 c.in_err-add_format.ensures.works.stays
-    (λ clean inside. inl (c.in_err-add_format.ensures.works.cause clean inside))
+pub returns-in_err-run-clause-works : goal.returns-in_err-run-clause-works
+returns-in_err-run-clause-works g c =
+    works_failed c.from_residual.result c.in_err-run.field-0.0 c.from_residual.ensures.0 c.from_residual.ensures.1 c.in_err-run.ensures.keeps.stays
+    (λ clean inside. inl (c.in_err-run.ensures.cause clean inside))
 
 pub returns-clause-works : goal.returns-clause-works
 returns-clause-works g c =
-    let first = c.in_ok-add_format.ensures in
-    let last = c.add_state.ensures in
+    let first = c.in_ok-run.ensures in
+    let last = c.run-2.ensures in
     record {
       cause = λ clean inside.
-          let before = clean_before last.works.stays clean in
-          if_err c.add_state.result (last.works.cause clean (first.works.stays.inside before inside))
-          (λ fault failed. inr (record { at = c.add_format.new.tx; since = first.works.stays.survives; by = (first.ran before inside, failed) }));
-      stays = stays_then first.works.stays last.works.stays;
+          let before = clean_before last.keeps.stays clean in
+          if_err c.run-2.result (last.cause clean (first.keeps.stays.inside before inside))
+          (λ fault failed. inr (record { at = c.run.new.self; since = first.keeps.stays.survives; by = (first.runs before inside, failed) }));
+      stays = stays_then first.keeps.stays last.keeps.stays;
     }
