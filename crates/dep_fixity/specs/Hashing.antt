@@ -1,5 +1,5 @@
 -- Octets that are hashed while they come.
-use Rattle.std.specs.Prelude.{◌≡◌, ◌≤◌, ℕ, List, length, take, Option, Some}
+use Rattle.std.specs.Prelude.{◌≤◌, ℕ, List, length, take}
 use Rattle.dep_fixity.specs.Fixity.{HashesMessage}
 use Rattle.dep_fixity.specs.declared.hashed.Hashed.{Hashed}
 
@@ -7,7 +7,3 @@ use Rattle.dep_fixity.specs.declared.hashed.Hashed.{Hashed}
 pub record IsHashed (hashed : Hashed) (octets : List ℕ) : Type 0 where
   pub within : hashed.count ≤ length octets
   pub holds : HashesMessage hashed.hasher (take hashed.count octets)
-
--- so is what was hashed, if anything was
-abbrev pub AreHashed : Option Hashed → List ℕ → Type 0
-AreHashed found octets = (hashed : Hashed) → found ≡ Some hashed → IsHashed hashed octets

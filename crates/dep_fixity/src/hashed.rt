@@ -1,5 +1,5 @@
 //! Octets that are hashed while they come.
-ghost use Rattle.std.specs.Prelude.{◌≡◌, ◌≤◌, ◌++◌, Some, OnOk, OnErr};
+ghost use Rattle.std.specs.Prelude.{◌≡◌, ◌++◌, OnOk, OnErr};
 
 use crate::hasher::{Digests, Hasher};
 use std::alloc::{AllocError, Global};
@@ -19,24 +19,23 @@ struct Hashed {
 #[derive(Drop)]
 pub struct HashedOctets {
     octets: Vec<u8>,
-    hashed: Option<Hashed>,
+    hashed: Hashed,
 }
 
 impl Model for HashedOctets {
     ghost use Rattle.std.specs.Prelude.{ℕ, List};
-    ghost use Rattle.dep_fixity.specs.Hashing.{AreHashed};
+    ghost use Rattle.dep_fixity.specs.Hashing.{IsHashed};
 
     ghost Value = { List ℕ };
 
     ghost view = { λ o. o.octets.items };
 
-    ghost invariant = { λ o. AreHashed o.hashed o.octets.items };
+    ghost invariant = { λ o. IsHashed o.hashed o.octets.items };
 }
 
 impl HashedOctets {
     ghost use Rattle.std.specs.Prelude.{◌≡◌, ◌++◌, take, OnOk, OnErr};
     ghost use Rattle.dep_fixity.specs.Fixity.{digests_of};
-    ghost use Rattle.dep_fixity.specs.Hashing.{AreHashed, IsHashed};
 
     /// Takes the octets over without a copy. None of them is hashed.
     pub fn from_vec(octets: Vec<u8>) -> HashedOctets
@@ -44,7 +43,7 @@ impl HashedOctets {
     {
         HashedOctets {
             octets,
-            hashed: None,
+            hashed: Hashed::nothing(),
         }
     }
 
@@ -68,42 +67,30 @@ impl HashedOctets {
     pub fn truncate(&mut self, count: usize)
         ensures { self.new ≡ take count self.old }
     {
-        let hashed = mem::replace(&mut self.hashed, None);
         self.octets.truncate(count);
-        self.hashed = within(hashed, count);
+        self.hashed.cut_to(count);
     }
 
     /// Hashes the octets up to the first `end`, as far as they have come.
     pub fn hash_to(&mut self, end: usize)
         ensures { self.new ≡ self.old }
     {
-        let mut hashed = self.begun();
-        hashed.go_on(&self.octets, end.min(self.octets.len()));
-        drop(mem::replace(&mut self.hashed, Some(hashed)));
+        let end = end.min(self.octets.len());
+        self.hashed.go_on(&self.octets, end);
     }
 
     /// Returns the digests of all octets. Those that weren't hashed before are hashed for it.
     pub fn digests(&self) -> Digests
         ensures { result ≡ digests_of self.now }
     {
-        let mut hashed = self.begun();
+        let mut hashed = self.hashed.copied();
         hashed.go_on(&self.octets, self.octets.len());
         hashed.hasher.finish()
-    }
-
-    // How far they were hashed.
-    fn begun(&self) -> Hashed
-        ensures { IsHashed result self.now }
-    {
-        match &self.hashed {
-            Some(hashed) => hashed.copied(),
-            None => Hashed::nothing(),
-        }
     }
 }
 
 impl Hashed {
-    ghost use Rattle.std.specs.Prelude.{◌≡◌, ◌≤◌, [], length, ℕ, List};
+    ghost use Rattle.std.specs.Prelude.{◌≡◌, ◌≤◌, length, take, ℕ, List};
     ghost use Rattle.dep_fixity.specs.Hashing.{IsHashed};
 
     fn nothing() -> Hashed
@@ -136,6 +123,15 @@ impl Hashed {
             self.count = end;
         }
     }
+
+    // Begins anew where more than the first `count` octets were hashed.
+    fn cut_to(&mut self, count: usize)
+        ensures { (octets : List ℕ) → IsHashed self.old octets → IsHashed self.new (take count octets) }
+    {
+        if self.count > count {
+            drop(mem::replace(self, Hashed::nothing()));
+        }
+    }
 }
 
 // Appends a piece. The room grows to twice as much at most, and up to `length` octets to no more than that.
@@ -149,21 +145,4 @@ fn extend(octets: &mut Vec<u8>, piece: &[u8], length: usize) -> Result<(), Alloc
         octets.reserve_exact(twice.max(piece.len()))?;
     }
     octets.extend_from_slice(piece)
-}
-
-// What was hashed, if that is no more than so many octets.
-fn within(hashed: Option<Hashed>, count: usize) -> Option<Hashed>
-    ensures { (kept : Hashed) → result ≡ Some kept → (hashed ≡ Some kept) × (kept.count ≤ count) }
-{
-    match hashed {
-        Some(kept) => {
-            if kept.count <= count {
-                Some(kept)
-            } else {
-                drop(kept);
-                None
-            }
-        }
-        None => None,
-    }
 }
