@@ -1,15 +1,17 @@
 -- The rulings by what a view shows, and what each rule on references says of an entry.
-use Rattle.std.specs.Prelude.{◌≡◌, not, Bool, true, is_some, Option, Some, None}
+use Rattle.std.specs.Prelude.{◌≡◌, true, is_some, Option, Some, None}
 use Rattle.std.specs.Option.{option_map_or}
 use Rattle.dep_types.specs.declared.config.Config.{Config}
 use Rattle.dep_types.specs.declared.refusal.Refusal.{Refusal}
-use Rattle.dep_types.specs.declared.refusal.Refusal.TheVariants.{BadRequest}
+use Rattle.dep_types.specs.declared.refusal.Refusal.TheVariants.{BadRequest, ByReferenceNotAllowed, PackagingFormatNotAcceptable}
 use Rattle.dep_docs_in.specs.declared.reference.Reference.{Reference}
 use Rattle.dep_decisions.specs.Decisions.{decision_with, upload_number}
 use Rattle.dep_decisions.specs.LookUps.{Entry}
 use Rattle.dep_decisions.specs.Rules.{digests_refusal, is_binary, length_refusal, refusal_by, there_refusal, unless, whole_refusal}
 use Rattle.dep_decisions.specs.declared.operation.Operation.{Operation}
 use Rattle.dep_operations.specs.Seen.{in_view, known_live, live_in}
+use Rattle.dep_operations.specs.declared.references.EntryRule.{EntryRule}
+use Rattle.dep_operations.specs.declared.references.EntryRule.TheVariants.{PointsAtUpload, IsBinary}
 use Rattle.dep_operations.specs.declared.references.UploadRule.{UploadRule}
 use Rattle.dep_operations.specs.declared.references.UploadRule.TheVariants.{IsThere, IsWhole, HasLength, HasDigests}
 use Rattle.dep_operations.specs.declared.ruling.Ruling.{Ruling}
@@ -17,6 +19,10 @@ use Rattle.dep_operations.specs.declared.ruling.Ruling.TheVariants.{Do, Refuse}
 use Rattle.dep_operations.specs.declared.view.LiveUpload.{LiveUpload}
 use Rattle.dep_operations.specs.declared.view.UploadState.{UploadState}
 use Rattle.dep_operations.specs.declared.view.View.{View}
+
+abbrev pub entry_refusal : EntryRule → Reference → Option Refusal
+entry_refusal PointsAtUpload r = unless (is_some (upload_number r.target)) ByReferenceNotAllowed
+entry_refusal IsBinary r = unless (is_binary r.packaging) PackagingFormatNotAcceptable
 
 abbrev pub rule_of : UploadRule → Entry LiveUpload → Option Refusal
 rule_of IsThere e = there_refusal e
@@ -27,12 +33,6 @@ rule_of HasDigests e = digests_refusal known_live e
 -- a segment of the upload is missing, where it is there
 abbrev pub live_segments_refusal : UploadState → Option Refusal
 live_segments_refusal state = unless (option_map_or known_live.is_whole (live_in state) true) BadRequest
-
-abbrev pub points_elsewhere : Reference → Bool
-points_elsewhere r = not (is_some (upload_number r.target))
-
-abbrev pub is_other_packaging : Reference → Bool
-is_other_packaging r = not (is_binary r.packaging)
 
 -- the ruling by what the view shows
 abbrev pub IsSeen : Config → View → Operation → Ruling → Type 0

@@ -1,18 +1,26 @@
 //! The rules on references (SWORD 3.0, by-reference deposit), one after another, each over all entries.
 ghost use Rattle.std.specs.Prelude.{◌≡◌, IfOk, Some};
-ghost use Rattle.std.specs.List.{list_any};
 ghost use Rattle.dep_decisions.specs.Rules.{digests_refusal, each, entries_refusal, length_refusal, missing_refusal, references_refusal, occurs_twice};
-ghost use Rattle.dep_operations.specs.Rules.{is_other_packaging, points_elsewhere, rule_of, live_segments_refusal};
-ghost use Rattle.dep_operations.specs.Seen.{entries_seen, entry_seen, in_view, is_timed_out, known_live, live_in, promised_in};
+ghost use Rattle.dep_operations.specs.Rules.{entry_refusal, rule_of, live_segments_refusal};
+ghost use Rattle.dep_operations.specs.Seen.{entries_seen, entry_seen, in_view, is_timed_out, known_live, live_in};
 ghost use Rattle.dep_operations.specs.Views.{uploads_named};
 
 use crate::view::{UploadState, UploadView, View};
 use dep_decisions::is_binary;
 use dep_docs_in::{Pointed, Reference};
 use dep_fixity::{DigestList, check};
-use dep_types::{Refusal, UploadRow};
+use dep_types::Refusal;
 use std::alloc::{AllocError, Global};
 use std::collections::BTreeSet;
+
+/// A rule on an entry alone.
+#[derive(Clone, Copy)]
+pub(crate) enum EntryRule {
+    /// It points at an upload.
+    PointsAtUpload,
+    /// It has the one packaging that is taken.
+    IsBinary,
+}
 
 /// A rule on an entry and the upload that it points at.
 #[derive(Clone, Copy)]
@@ -45,11 +53,11 @@ fn entries_rule(
 ) -> Result<Option<Refusal>, AllocError>
     ensures { IfOk result (λ refusal. refusal ≡ entries_refusal (in_view view.now) references.now) }
 {
-    if some_points_elsewhere(references) {
-        return Ok(Some(Refusal::ByReferenceNotAllowed));
+    if let Some(refusal) = first_entry_refused(EntryRule::PointsAtUpload, references) {
+        return Ok(Some(refusal));
     }
-    if some_is_other_packaging(references) {
-        return Ok(Some(Refusal::PackagingFormatNotAcceptable));
+    if let Some(refusal) = first_entry_refused(EntryRule::IsBinary, references) {
+        return Ok(Some(refusal));
     }
     if occurs_twice(alloc, references)? {
         return Ok(Some(Refusal::BadRequest));
@@ -67,33 +75,34 @@ fn entries_rule(
     Ok(first_refused(UploadRule::HasDigests, references, views))
 }
 
-fn some_points_elsewhere(references: &[Reference]) -> bool
-    ensures { result ≡ list_any points_elsewhere references.now }
+// What the first entry is refused for that breaks the rule.
+fn first_entry_refused(rule: EntryRule, references: &[Reference]) -> Option<Refusal>
+    ensures { result ≡ each (entry_refusal rule) references.now }
 {
-    references.iter().any(points_elsewhere)
-}
-
-fn points_elsewhere(reference: &Reference) -> bool
-    ensures { result ≡ points_elsewhere reference.now }
-{
-    match reference.target {
-        Pointed::Upload(_) => false,
-        Pointed::Elsewhere => true,
+    let mut rest = references;
+    while let Some((reference, behind)) = rest.split_first() {
+        rest = behind;
+        if let Some(refusal) = entry_rule(rule, reference) {
+            return Some(refusal);
+        }
     }
+    None
 }
 
-fn some_is_other_packaging(references: &[Reference]) -> bool
-    ensures { result ≡ list_any is_other_packaging references.now }
+fn entry_rule(rule: EntryRule, reference: &Reference) -> Option<Refusal>
+    ensures { result ≡ entry_refusal rule reference.now }
 {
-    references.iter().any(is_other_packaging)
-}
-
-fn is_other_packaging(reference: &Reference) -> bool
-    ensures { result ≡ is_other_packaging reference.now }
-{
-    match &reference.packaging {
-        Some(packaging) => !is_binary(packaging.as_str().as_bytes()),
-        None => false,
+    match rule {
+        EntryRule::PointsAtUpload => match reference.target {
+            Pointed::Upload(_) => None,
+            Pointed::Elsewhere => Some(Refusal::ByReferenceNotAllowed),
+        },
+        EntryRule::IsBinary => match &reference.packaging {
+            Some(packaging) if !is_binary(packaging.as_str().as_bytes()) => {
+                Some(Refusal::PackagingFormatNotAcceptable)
+            }
+            _ => None,
+        },
     }
 }
 
@@ -114,7 +123,7 @@ fn occurs_twice(alloc: Global, references: &[Reference]) -> Result<bool, AllocEr
     Ok(false)
 }
 
-// What the first entry is refused for that breaks the rule.
+// What the first entry that points at an upload is refused for that breaks the rule.
 #[tactic(auto, unfolding(crate::specs::Seen::entries_seen))]
 fn first_refused(
     rule: UploadRule,
@@ -192,21 +201,15 @@ fn digest_rule(reference: &Reference, state: &UploadState) -> Option<Refusal>
     match &upload.digests {
         None => None,
         Some(digests) => {
-            if check(&promised_in(&upload.row), digests) && check(&reference.digest, digests) {
+            let promised = DigestList {
+                sha256: upload.row.sha256,
+                sha512: upload.row.sha512,
+            };
+            if check(&promised, digests) && check(&reference.digest, digests) {
                 None
             } else {
                 Some(Refusal::DigestMismatch)
             }
         }
-    }
-}
-
-// What was promised at the opening.
-fn promised_in(row: &UploadRow) -> DigestList
-    ensures { result ≡ promised_in row.now }
-{
-    DigestList {
-        sha256: row.sha256,
-        sha512: row.sha512,
     }
 }

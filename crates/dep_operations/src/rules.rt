@@ -4,8 +4,8 @@ ghost use Rattle.dep_types.specs.Uploads.{sizes_agree};
 ghost use Rattle.dep_types.specs.declared.refusal.Refusal.TheVariants as why;
 ghost use Rattle.dep_decisions.specs.Kinds.{content_kind};
 ghost use Rattle.dep_decisions.specs.Purposes.{kind_for};
-ghost use Rattle.dep_decisions.specs.Rules.{behalf_rule, missing_refusal, opening_refusal, presence_refusal, received_refusal, repeat_refusal, segment_by, size_rule, tag_refusal, unless};
-ghost use Rattle.dep_operations.specs.Seen.{in_view, is_timed_out, live_in, row_length, tag_seen, upload_in};
+ghost use Rattle.dep_decisions.specs.Rules.{behalf_rule, opening_refusal, presence_refusal, received_refusal, repeat_refusal, segment_by, size_rule, tag_refusal, unless};
+ghost use Rattle.dep_operations.specs.Seen.{in_view, row_length, tag_seen};
 
 use crate::references::state_rule;
 use crate::view::{UploadState, UploadView, View};
@@ -13,7 +13,7 @@ use dep_decisions::{Operation, Purpose};
 use dep_fields::{Field, Opening};
 use dep_fixity::HashedOctets;
 use dep_tags::IfMatch;
-use dep_types::{Config, List, Refusal, Resource, UploadRow};
+use dep_types::{Config, Refusal, Resource, UploadRow};
 
 /// Rule 5: On-Behalf-Of.
 #[tactic(auto, unfolding(dep_decisions::specs::Rules::behalf_rule))]
@@ -37,7 +37,10 @@ pub(crate) fn presence_rule(view: &View, resource: &Resource) -> Option<Refusal>
         Resource::Object(_) | Resource::Metadata(_) | Resource::FileSet(_) | Resource::BagList(_) =>
             not_found_unless(view.object.is_some()),
         Resource::File(_, _) => not_found_unless(view.file.is_some()),
-        Resource::Upload(_) => upload_rule(&view.uploads),
+        Resource::Upload(_) => match view.uploads.as_slice() {
+            [upload] => state_rule(&upload.state),
+            _ => Some(Refusal::NotFound),
+        },
         Resource::BagFile(_, _) => not_found_unless(view.has_path),
     }
 }
@@ -52,16 +55,6 @@ fn not_found_unless(is_there: bool) -> Option<Refusal>
     }
 }
 
-// Of the one upload that a Temporary-URL names.
-fn upload_rule(views: &List<UploadView>) -> Option<Refusal>
-    ensures { result ≡ missing_refusal (live_in (upload_in views.now)) (is_timed_out (upload_in views.now)) }
-{
-    match views.as_slice() {
-        [view] => state_rule(&view.state),
-        _ => Some(Refusal::NotFound),
-    }
-}
-
 /// Rule 7: If-Match against a tag.
 pub(crate) fn tag_rule(
     config: &Config,
@@ -73,9 +66,8 @@ pub(crate) fn tag_rule(
     let tag = tag?;
     match if_match {
         None if config.require_if_match => Some(Refusal::ETagRequired),
-        None => None,
-        Some(members) if members.holds(tag) => None,
-        Some(_) => Some(Refusal::ETagNotMatched),
+        Some(members) if !members.holds(tag) => Some(Refusal::ETagNotMatched),
+        _ => None,
     }
 }
 
@@ -152,11 +144,16 @@ fn segment_rule(
 ) -> Option<Refusal>
     ensures { result ≡ received_refusal (in_view view.now) resource.now segment content.now }
 {
-    match (resource, view.uploads.as_slice()) {
-        (Resource::Upload(_), [upload]) => match &upload.state {
-            UploadState::Live(live) => live_rule(&live.row, view.repeats, segment, content),
-            _ => None,
-        },
+    let Resource::Upload(_) = resource else {
+        return None;
+    };
+    match view.uploads.as_slice() {
+        [
+            UploadView {
+                state: UploadState::Live(live),
+                ..
+            },
+        ] => live_rule(&live.row, view.repeats, segment, content),
         _ => None,
     }
 }
