@@ -1,13 +1,11 @@
 //! The rules on the fields of a content, which look at no more than the request: of the order of refusals in
 //! docs/PROFILE.md those from 8 to 12. None takes memory.
-ghost use Rattle.std.specs.Prelude.{◌≡◌, ◌==◌, option_map, bytes_eq, codes, position};
+ghost use Rattle.std.specs.Prelude.{◌≡◌, ◌==◌, option_map, bytes_eq, position};
 ghost use Rattle.std.specs.List.{before_first};
-ghost use Rattle.std.specs.Str.{str_eq_ignore_ascii_case};
 ghost use Rattle.dep_types.specs.Names.{binary};
-ghost use Rattle.dep_types.specs.declared.refusal.Refusal.TheVariants as why;
 ghost use Rattle.dep_decisions.specs.Kinds.{content_kind};
 ghost use Rattle.dep_decisions.specs.Purposes.{kind_for};
-ghost use Rattle.dep_decisions.specs.Rules.{is_json, media_name, digest_rule, digests_if_promised, encoding_rule, fields_refusal, format_rule, in_progress_rule, kind_rule, reads_in_progress, type_rule, unless, value_refusal};
+ghost use Rattle.dep_decisions.specs.Rules.{is_json, media_name, digest_rule, digests_if_promised, encoding_rule, fields_refusal, format_rule, in_progress_rule, kind_rule, reads_in_progress, type_rule, value_refusal};
 
 use crate::operation::Operation;
 use crate::purpose::{Purpose, is_completion};
@@ -46,22 +44,12 @@ fn encoding_rule(operation: &Operation<'_>) -> Option<Refusal>
     ensures { result ≡ encoding_rule operation.now }
 {
     match &operation.fields.content_encoding {
-        Field::Absent => None,
         Field::Bad => Some(Refusal::BadRequest),
-        Field::Value(coding) => {
-            if is_identity(coding) {
-                None
-            } else {
-                Some(Refusal::ContentTypeNotAcceptable)
-            }
+        Field::Value(coding) if !coding.as_slice().eq_ignore_ascii_case(b"identity") => {
+            Some(Refusal::ContentTypeNotAcceptable)
         }
+        _ => None,
     }
-}
-
-fn is_identity(coding: &Octets) -> bool
-    ensures { result ≡ str_eq_ignore_ascii_case coding.now (codes "identity") }
-{
-    coding.as_slice().eq_ignore_ascii_case(b"identity")
 }
 
 /// Rule 9: what the content is for.
@@ -215,18 +203,10 @@ pub fn digest_rule(operation: &Operation<'_>, digests: Option<Digests>) -> Optio
 {
     match (&operation.fields.digest, digests) {
         (Field::Bad, _) => Some(Refusal::BadRequest),
-        (Field::Value(list), Some(digests)) => mismatch_unless(check(list, &digests)),
+        (Field::Value(list), Some(digests)) if !check(list, &digests) => {
+            Some(Refusal::DigestMismatch)
+        }
         _ => None,
-    }
-}
-
-fn mismatch_unless(is_kept: bool) -> Option<Refusal>
-    ensures { result ≡ unless is_kept why.DigestMismatch }
-{
-    if is_kept {
-        None
-    } else {
-        Some(Refusal::DigestMismatch)
     }
 }
 
