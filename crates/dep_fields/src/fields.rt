@@ -45,7 +45,7 @@ impl SwordFields {
         ensures one { IfOk result (λ read. read ≡ fields_of head.now.fields) }
         ensures wanted { OnErr result (IsCopied head.now.fields) }
     {
-        let on_behalf_of = behalf(alloc, single(head, "On-Behalf-Of"))?;
+        let on_behalf_of = copied_text(alloc, behalf(single(head, "On-Behalf-Of")))?;
         let disposition = disposition(alloc, single(head, "Content-Disposition"))?;
         let digest = digest(alloc, head)?;
         let copies = copied_fields(alloc, head)?;
@@ -79,7 +79,7 @@ fn copied_fields(alloc: Global, head: &Head) -> Result<Copies, AllocError>
         packaging: copied(alloc, single(head, "Packaging"))?,
         metadata_format: copied(alloc, single(head, "Metadata-Format"))?,
         content_encoding: copied(alloc, single(head, "Content-Encoding"))?,
-        content_type: media(alloc, single(head, "Content-Type"))?,
+        content_type: copied_text(alloc, media(single(head, "Content-Type")))?,
     })
 }
 
@@ -94,28 +94,19 @@ fn disposition(alloc: Global, field: Field<&[u8]>) -> Result<Field<Kind>, AllocE
     }
 }
 
-fn behalf(alloc: Global, field: Field<&[u8]>) -> Result<Field<Text>, AllocError>
-    ensures { let is = read_from (if_passes is_behalf) (texts field.entry) in
-        MatchResult result (λ read. read ≡ is) (λ _. HasValue is) }
+#[tactic(auto, using(crate::proofs::FieldLemmas::named, crate::proofs::FieldLemmas::not_utf8))]
+fn behalf(field: Field<&[u8]>) -> Field<&str>
+    ensures { texts result ≡ read_from (if_passes is_behalf) (texts field.entry) }
 {
     match field {
-        Field::Absent => Ok(Field::Absent),
-        Field::Bad => Ok(Field::Bad),
-        Field::Value(text) => behalf_text(alloc, text),
+        Field::Absent => Field::Absent,
+        Field::Bad => Field::Bad,
+        Field::Value(text) if text.is_empty() => Field::Bad,
+        Field::Value(text) => match str::from_utf8(text) {
+            Ok(name) => Field::Value(name),
+            Err(_) => Field::Bad,
+        },
     }
-}
-
-fn behalf_text(alloc: Global, text: &[u8]) -> Result<Field<Text>, AllocError>
-    ensures { let is = or_bad (if_passes is_behalf text.now) in
-        MatchResult result (λ read. read ≡ is) (λ _. HasValue is) }
-{
-    if text.is_empty() {
-        return Ok(Field::Bad);
-    }
-    let Ok(text) = str::from_utf8(text) else {
-        return Ok(Field::Bad);
-    };
-    Ok(Field::Value(Text::copied(alloc, text)?))
 }
 
 fn progress(field: Field<&[u8]>) -> Field<bool>
@@ -142,25 +133,26 @@ fn copied(alloc: Global, field: Field<&[u8]>) -> Result<Field<Octets>, AllocErro
     }
 }
 
-fn media(alloc: Global, field: Field<&[u8]>) -> Result<Field<Text>, AllocError>
-    ensures { let is = read_from (if_passes is_media) (texts field.entry) in
-        MatchResult result (λ read. read ≡ is) (λ _. HasValue is) }
+fn media(field: Field<&[u8]>) -> Field<&str>
+    ensures { texts result ≡ read_from (if_passes is_media) (texts field.entry) }
+{
+    match field {
+        Field::Absent => Field::Absent,
+        Field::Value(text) if is_media(text) => Field::Value(ascii_text(text)),
+        _ => Field::Bad,
+    }
+}
+
+// A copy of the text, where there is one.
+fn copied_text(alloc: Global, field: Field<&str>) -> Result<Field<Text>, AllocError>
+    ensures { MatchResult result (λ read. read ≡ texts field.entry)
+        (λ _. HasValue (texts field.entry)) }
 {
     match field {
         Field::Absent => Ok(Field::Absent),
         Field::Bad => Ok(Field::Bad),
-        Field::Value(text) => media_text(alloc, text),
+        Field::Value(text) => Ok(Field::Value(Text::copied(alloc, text)?)),
     }
-}
-
-fn media_text(alloc: Global, text: &[u8]) -> Result<Field<Text>, AllocError>
-    ensures { let is = or_bad (if_passes is_media text.now) in
-        MatchResult result (λ read. read ≡ is) (λ _. HasValue is) }
-{
-    if !is_media(text) {
-        return Ok(Field::Bad);
-    }
-    Ok(Field::Value(Text::copied(alloc, ascii_text(text))?))
 }
 
 // ASCII as a text.
@@ -193,8 +185,8 @@ fn digest(alloc: Global, head: &Head) -> Result<Field<DigestList>, AllocError>
 fn digest_in(text: &[u8]) -> Field<DigestList>
     ensures { result ≡ or_bad (digest_field text.now) }
 {
-    match read_digest_field(text) {
-        Ok(digest) => Field::Value(digest),
-        Err(_) => Field::Bad,
-    }
+    let Ok(digest) = read_digest_field(text) else {
+        return Field::Bad;
+    };
+    Field::Value(digest)
 }
