@@ -45,9 +45,9 @@ impl SwordFields {
         ensures one { IfOk result (λ read. read ≡ fields_of head.now.fields) }
         ensures wanted { OnErr result (IsCopied head.now.fields) }
     {
+        let digest = digest(alloc, head)?;
         let on_behalf_of = copied_text(alloc, behalf(single(head, "On-Behalf-Of")))?;
         let disposition = disposition(alloc, single(head, "Content-Disposition"))?;
-        let digest = digest(alloc, head)?;
         let copies = copied_fields(alloc, head)?;
         Ok(SwordFields {
             on_behalf_of,
@@ -94,7 +94,6 @@ fn disposition(alloc: Global, field: Field<&[u8]>) -> Result<Field<Kind>, AllocE
     }
 }
 
-#[tactic(auto, using(crate::proofs::FieldLemmas::named, crate::proofs::FieldLemmas::not_utf8))]
 fn behalf(field: Field<&[u8]>) -> Field<&str>
     ensures { texts result ≡ read_from (if_passes is_behalf) (texts field.entry) }
 {

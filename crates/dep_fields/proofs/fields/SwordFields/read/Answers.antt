@@ -29,4 +29,4 @@ returns-in_err-disposition-clause-wanted c = on_err c.from_residual-in_err-dispo
 
 pub returns-in_err-on_behalf_of-clause-wanted : goal.returns-in_err-on_behalf_of-clause-wanted
 returns-in_err-on_behalf_of-clause-wanted c =
-    on_err c.from_residual.result (behalf (subst (λ t. HasValue t) (c.behalf.ensures ∙ ap (read_from (if_passes is_behalf)) c.single.ensures) c.in_err-on_behalf_of.ensures))
+    on_err c.from_residual-in_err-on_behalf_of.result (behalf (subst (λ t. HasValue t) (c.behalf.ensures ∙ ap (read_from (if_passes is_behalf)) c.single.ensures) c.in_err-on_behalf_of.ensures))
