@@ -9,7 +9,7 @@ use mio::event::Event;
 use mio::net::{TcpListener, TcpStream};
 use mio::{Events, Interest, Poll, Token};
 use std::alloc::{AllocError, Global};
-use std::io;
+use std::io::{self, ErrorKind};
 use std::net::{Net, SocketAddr};
 use std::time::Duration;
 
@@ -18,6 +18,9 @@ const LISTENER: Token = Token(MOST_SEATS);
 
 /// How many sockets can be ready at once: those of all connections and the listener.
 const MOST_READY: usize = MOST_SEATS + 1;
+
+/// How often accepting is tried again where a client is gone before it is let in.
+const MOST_TRIES: u32 = 64;
 
 /// A connection whose socket may be ready.
 #[derive(Clone, Copy)]
@@ -28,34 +31,66 @@ pub(crate) struct Ready {
     pub(crate) is_writable: bool,
 }
 
-/// The sockets of which the system says when they are ready, and what it said of connections and wasn't taken yet.
+/// An address that is listened at, and the sockets of which the system says when they are ready, with what it said of
+/// connections and wasn't taken yet.
 #[derive(Drop)]
 pub(crate) struct Poller {
     poll: Poll,
     polled: Events,
     ready: Vec<Ready>,
+    /// There is none once it was closed, so that who comes then is rejected by the system.
+    listener: Option<TcpListener>,
+    /// Whether a client may wait to be let in.
+    is_waited_for: bool,
 }
 
 impl Poller {
     /// Listens at the address, and watches whether a client waits there, with room for what is said of all sockets at
     /// once.
-    pub fn listening<R: Net>(
-        alloc: Global,
-        rt: &R,
-        address: SocketAddr,
-    ) -> io::Result<(Poller, TcpListener)> {
+    pub fn listening<R: Net>(alloc: Global, rt: &R, address: SocketAddr) -> io::Result<Poller> {
         let polled = Events::with_capacity(alloc, MOST_READY)?;
         let ready = Vec::with_capacity(alloc, MOST_READY)?;
         let poll = Poll::new(rt)?;
         let mut listener = TcpListener::bind(rt, address)?;
         let registry = poll.registry();
         registry.register(&mut listener, LISTENER, Interest::READABLE)?;
-        let poller = Poller {
+        Ok(Poller {
             poll,
             polled,
             ready,
+            listener: Some(listener),
+            is_waited_for: true,
+        })
+    }
+
+    /// Listens no more.
+    pub fn close(&mut self) {
+        drop(self.listener.take());
+    }
+
+    /// The next client that waits, if one may. Where the system gives none, as for want of descriptors, it is asked again
+    /// in another round.
+    pub fn accept(&mut self) -> Option<(TcpStream, SocketAddr)> {
+        if !self.is_waited_for {
+            return None;
+        }
+        let Some(listener) = &self.listener else {
+            return None;
         };
-        Ok((poller, listener))
+        for _ in 0..MOST_TRIES {
+            match listener.accept() {
+                Ok(client) => return Some(client),
+                Err(error) => match error.kind() {
+                    ErrorKind::Interrupted | ErrorKind::ConnectionAborted => {}
+                    ErrorKind::WouldBlock => {
+                        self.is_waited_for = false;
+                        return None;
+                    }
+                    _ => return None,
+                },
+            }
+        }
+        None
     }
 
     /// Watches the socket of the connection at a place too, which sends at once. It returns whether it can.
@@ -67,13 +102,16 @@ impl Poller {
         registry.register(stream, Token(at), interest).is_ok()
     }
 
-    /// Waits until a socket is ready, for so long at most. It returns whether the listener is.
-    pub fn wait(&mut self, nap: Duration) -> Result<bool, SocketFault> {
+    /// Waits until a socket is ready, for so long at most.
+    pub fn wait(&mut self, nap: Duration) -> Result<(), SocketFault> {
         if self.poll.poll(&mut self.polled, Some(nap)).is_err() {
             return Err(SocketFault::Poll);
         }
         match note_all(&self.polled, LISTENER, &mut self.ready) {
-            Ok(is_waited_for) => Ok(is_waited_for),
+            Ok(is_waited_for) => {
+                self.is_waited_for |= is_waited_for;
+                Ok(())
+            }
             Err(AllocError) => Err(SocketFault::Memory),
         }
     }

@@ -9,21 +9,16 @@ use crate::spools::Spools;
 use crate::stop_file::StopFile;
 use dep_host::{Client, Event, Events, MOST_SEATS};
 use dep_outbox::Wire;
-use mio::net::{TcpListener, TcpStream};
 use std::alloc::Global;
 use std::error::Error;
 use std::fs::Files;
-use std::io::ErrorKind;
-use std::net::{IpAddr, Net, SocketAddr};
+use std::net::Net;
 use std::rc::Rc;
 use std::time::{Clock, Duration, Instant};
 use std::{fmt, io};
 
 /// How many seconds it sleeps at most, so that connections that are silent for too long are closed.
 const NAP: u64 = 1;
-
-/// How often accepting is tried again where a client is gone before it is let in.
-const MOST_TRIES: u32 = 64;
 
 type SocketClient<'a, R> = Client<SocketSource, SocketSink, FileSpool<'a, R>>;
 
@@ -61,12 +56,9 @@ enum EventKind {
 pub struct Sockets<'a, R: Files> {
     alloc: Global,
     spools: &'a Spools<'a, R>,
+    /// It listens no more once it was told to stop.
     poller: Poller,
-    /// It is closed once it was told to stop, so that who comes then is rejected by the system.
-    listener: Option<TcpListener>,
     stage: EventKind,
-    /// Whether a client may wait to be let in.
-    is_waited_for: bool,
     /// How many clients are let in yet at most.
     remaining: u64,
     stop: StopFile<'a, R>,
@@ -87,14 +79,12 @@ impl<'a, R: Files + Net + Clock> Sockets<'a, R> {
     ) -> io::Result<Sockets<'a, R>> {
         let start = Instant::now(rt)?;
         let open = Rc::new(alloc, ())?;
-        let (poller, listener) = Poller::listening(alloc, rt, entrance.address)?;
+        let poller = Poller::listening(alloc, rt, entrance.address)?;
         Ok(Sockets {
             alloc,
             spools,
             poller,
-            listener: Some(listener),
             stage: EventKind::LettingIn(0),
-            is_waited_for: true,
             remaining: entrance.clients,
             stop: StopFile::new(rt, entrance.stop_file),
             open,
@@ -115,8 +105,7 @@ impl<'a, R: Files + Net + Clock> Sockets<'a, R> {
         }
         let nap = Duration::from_secs(if is_busy { 0 } else { NAP });
         match self.poller.wait(nap) {
-            Ok(is_waited_for) => {
-                self.is_waited_for |= is_waited_for;
+            Ok(()) => {
                 self.clock.note_look();
                 true
             }
@@ -127,28 +116,15 @@ impl<'a, R: Files + Net + Clock> Sockets<'a, R> {
         }
     }
 
-    /// The next client that waits, if there is a vacancy, and the system has room for it.
+    /// The next client that waits, if there is a vacancy, where it is seated, and the system has room for it.
     fn let_in(&mut self, vacancy: Option<usize>, count: usize) -> Option<SocketClient<'a, R>> {
-        let Some((source, sink, address)) = self.seat(vacancy, count) else {
-            return None;
-        };
-        let wire = Wire::new(self.alloc, sink, FileSpool::new(self.spools));
-        Some(Client::new(source, wire, address))
-    }
-
-    /// Seats the next client that waits at the vacancy, and returns the halves of its socket, and where it comes from.
-    fn seat(
-        &mut self,
-        vacancy: Option<usize>,
-        count: usize,
-    ) -> Option<(SocketSource, SocketSink, IpAddr)> {
         let Some(at) = vacancy else {
             return None;
         };
-        if !self.is_waited_for || self.remaining == 0 || count >= MOST_SEATS {
+        if self.remaining == 0 || count >= MOST_SEATS {
             return None;
         }
-        let Some((mut stream, address)) = self.accept() else {
+        let Some((mut stream, address)) = self.poller.accept() else {
             return None;
         };
         self.stage = EventKind::LettingIn(count + 1);
@@ -159,29 +135,8 @@ impl<'a, R: Files + Net + Clock> Sockets<'a, R> {
         let Ok((source, sink)) = halves(self.alloc, stream, &self.open) else {
             return None;
         };
-        Some((source, sink, address.ip()))
-    }
-
-    /// The next client that waits. Where the system gives none, as for want of descriptors, it is asked again in
-    /// another round.
-    fn accept(&mut self) -> Option<(TcpStream, SocketAddr)> {
-        let Some(listener) = &self.listener else {
-            return None;
-        };
-        for _ in 0..MOST_TRIES {
-            match listener.accept() {
-                Ok(client) => return Some(client),
-                Err(error) => match error.kind() {
-                    ErrorKind::Interrupted | ErrorKind::ConnectionAborted => {}
-                    ErrorKind::WouldBlock => {
-                        self.is_waited_for = false;
-                        return None;
-                    }
-                    _ => return None,
-                },
-            }
-        }
-        None
+        let wire = Wire::new(self.alloc, sink, FileSpool::new(self.spools));
+        Some(Client::new(source, wire, address.ip()))
     }
 }
 
@@ -199,7 +154,7 @@ impl<'a, R: Files + Net + Clock> Events<SocketSource, SocketSink, FileSpool<'a, 
         if let EventKind::LettingIn(count) = self.stage {
             let second = self.clock.elapsed().as_secs();
             if self.stop.reports(second) {
-                drop(self.listener.take());
+                self.poller.close();
                 return Event::Stop(second);
             }
             if let Some(client) = self.let_in(vacancy, count) {
