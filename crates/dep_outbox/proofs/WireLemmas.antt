@@ -57,3 +57,20 @@ pub nothing_reported : (a h : Option (List ℕ)) → IsAtEnd a → IsAtEnd h →
 nothing_reported None h p q = tt
 nothing_reported (Some x) None p q = tt
 nothing_reported (Some x) (Some y) p q = rw p q
+
+-- what is taken out of the spool and sent off the front changes nothing of what was taken
+pub sends_front : (a b h m k : Option (List ℕ)) (n : ℕ) (sent front : List ℕ) → sent ≡ front → Keeps h m → Appends a b (take n sent) → Consumes m k (take n front) → Keeps (joined_bytes a h) (joined_bytes b k)
+sends_front None b h m k n sent front same p q r = tt
+sends_front (Some x) None h m k n sent front same p q r = absurd q
+sends_front (Some x) (Some y) None m k n sent front same p q r = tt
+sends_front (Some x) (Some y) (Some u) None k n sent front same p q r = absurd p
+sends_front (Some x) (Some y) (Some u) (Some v) None n sent front same p q r = absurd r
+sends_front (Some x) (Some y) (Some u) (Some v) (Some w) n sent front same p q r =
+    ap (λ (l : List ℕ). l ++ w) q ∙ append_assoc x (take n sent) w
+    ∙ ap (λ (l : List ℕ). x ++ l) (ap (λ (l : List ℕ). take n l ++ w) same ∙ (sym r ∙ p))
+
+-- no bytes are taken at once
+pub takes_none : (a : Option (List ℕ)) (bytes : List ℕ) → length bytes ≡ 0 → Appends a a bytes
+takes_none None bytes none = tt
+takes_none (Some x) [] none = sym (append-nil x)
+takes_none (Some x) (y ∷ ys) none = absurd (let bad : suc (length ys) ≡ 0 = none in cc)

@@ -51,10 +51,10 @@ impl<S: Spool> Backlog<S> {
         ensures cause { OnErr result (HasRisen (S.failures self.old.spool)
             (S.failures self.new.spool)) }
     {
-        if self.front.is_empty() {
-            self.spool.pull(&mut self.front)?;
+        if !self.front.is_empty() {
+            return Ok(());
         }
-        Ok(())
+        self.spool.pull(&mut self.front)
     }
 
     /// The bytes in memory that wait.

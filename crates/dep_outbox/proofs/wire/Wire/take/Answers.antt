@@ -1,7 +1,10 @@
-use Rattle.std.proofs.Common.{arith}
+use Rattle.std.proofs.Common.{arith, rules}
 use Rattle.std.proofs.lemmas.Result.{IfOk-from_err}
-use Rattle.dep_outbox.proofs.WireLemmas.{none_taken, appends_behind, appends_after, part_after, at_any_error}
+use Rattle.dep_outbox.proofs.WireLemmas.{none_taken, takes_none, appends_behind, appends_after, part_after, at_any_error}
 use Rattle.dep_outbox.proofs.wire.Wire.take.Goals as goal
+
+pub returns-then-is_empty-clause-ok : goal.returns-then-is_empty-clause-ok
+returns-then-is_empty-clause-ok g c = takes_none _ c.args.bytes.now (search rules)
 
 pub returns-in_err-make_room-clause-ok : goal.returns-in_err-make_room-clause-ok
 returns-in_err-make_room-clause-ok g c = IfOk-from_err c.from_residual.result _ c.from_residual.ensures.0
