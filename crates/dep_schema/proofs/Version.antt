@@ -33,7 +33,7 @@ use Rattle.dep_schema.proofs.Missing.{find_missing, find_plain}
 use Rattle.dep_tables.specs.Tables.{tables_of, IsKnownSchema, IsKnown}
 use Rattle.dep_tables.specs.Versions.{our_version, older_version, HasVersion}
 use Rattle.dep_migrations.specs.FirstTables.{no_schema, SeesTables, IsBeside, GainsOurs, new_store_tables}
-use Rattle.dep_schema.specs.OpenTables.{HasKnownVersion, Holds, IsOpenBeside, CommitsBySchema}
+use Rattle.dep_schema.specs.OpenTables.{HasKnownVersion, IsOpenable, Holds, IsOpenBeside, CommitsBySchema}
 use Rattle.dep_schema.specs.OpenFaults.{open_fault_for, AreVersion, AreKnownVersion, ShowsVersion, ReportsVersion}
 use Rattle.dep_types.specs.declared.store_fault.StoreFault.{StoreFault}
 use Rattle.dep_types.specs.declared.store_fault.StoreFault.TheVariants.{Store, Memory}
@@ -73,6 +73,12 @@ find_none s lacks = find_missing s.now.schema lacks.table lacks.view
 -- so it is in an empty database
 pub empty_lacks : (schema : Schema) → schema ≡ no_schema → LacksFormat schema
 empty_lacks schema empty = subst LacksFormat (sym empty) (record { table = refl; view = refl })
+
+-- a version is not named where a database is openable
+pub not_openable : (s : State) → (LacksFormat s.now.schema → ⊥) → (IsKnown s → HasKnownVersion (tables_of s) → ⊥) → IsOpenable s → ⊥
+not_openable s lacking ours (inl empty) = lacking (empty_lacks s.now.schema empty)
+not_openable s lacking ours (inr (inl lacks)) = lacking lacks
+not_openable s lacking ours (inr (inr there)) = ours there.0 there.1
 
 all_pass : (params : Row) (rows : List Row) → filter (passes_tests params []) rows ≡ rows
 all_pass params [] = refl

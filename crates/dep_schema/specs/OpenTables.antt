@@ -96,11 +96,6 @@ pub record SeesTheSame (old new : State) : Type 0 where
   pub now : new.now ≡ old.now
   pub committed : new.committed ≡ old.now
 
--- there is some table, and where the tables are of one of our versions they have no version that is known
-abbrev pub HasOtherVersion : State → Type 0
-HasOtherVersion s = (s.now.schema ≡ no_schema → ⊥)
-    × (IsKnown s → HasKnownVersion (tables_of s) → ⊥)
-
 -- what every call on a transaction of this connection keeps
 abbrev pub StaysOn : {S A E : Type 0} (g : Ghosts S) (old new : MutBor (Held S))
     → Result A E → Type 0

@@ -1,28 +1,29 @@
 -- What the tables are once a database was opened, or was not.
-use Rattle.std.specs.Prelude.{◌≡◌, ℕ, IsTrue, Result, IfOk, OnOk}
+use Rattle.std.specs.Prelude.{◌≡◌, ℕ, IsTrue}
 use Rattle.sqlite.specs.Schema.{Schema}
 use Rattle.sqlite.specs.State.{State, HasCleanDisk, Survives}
 use Rattle.sqlite.specs.Held.{Held, state}
 use Rattle.sqlite_trees.specs.declared.store.Store.{Ghosts}
 use Rattle.dep_statements.specs.Adding.{HasCounters}
 use Rattle.dep_tables.specs.Tables.{Tables, tables_of, IsOf, IsKnownSchema}
-use Rattle.dep_tables.specs.Versions.{our_version, HasVersion}
-use Rattle.dep_migrations.specs.Beside.{LacksFormat}
-use Rattle.dep_migrations.specs.FirstTables.{new_store_tables}
-use Rattle.dep_schema.specs.OpenTables.{HoldsNone, HoldsOf, StaysFile, IsOpenWithOf, IsOpenBeside, CommitsOpen}
+use Rattle.dep_tables.specs.Versions.{our_version, older_version, HasVersion}
+use Rattle.dep_migrations.specs.Beside.{LacksFormat, AreFree}
+use Rattle.dep_migrations.specs.FirstTables.{no_schema, new_store_tables}
+use Rattle.dep_schema.specs.OpenTables.{HoldsNone, HoldsOf, StaysFile, IsOpenWithOf, IsOpenBeside, SeesTheSame, CommitsOpen}
 use Rattle.dep_schema.specs.OpenFaults.{begun, ShowsOrMakes, FailsToOpen}
 use Rattle.dep_schema.specs.declared.opening.OpenFault.{OpenFault}
 
-module _ (old new : State) (result : Result ℕ OpenFault) where
-  -- the tables of one of our versions stand, with that version
-  abbrev pub RepresentsKnown : Type 0
-  RepresentsKnown = HasCleanDisk new → (its : Schema) → IsKnownSchema its → IsOf its old
-      → IfOk result (λ version. HasVersion version (tables_of old) × IsOpenWithOf its new (tables_of old))
-
+-- what the transaction that opened a database has made of it, by the schema that was there
+pub record IsPrepared (old new : State) (version : ℕ) : Type 0 where
+  pub opened : IsTrue old.is_open
+  pub fresh : old.now.schema ≡ no_schema → StaysFile new new_store_tables
+  pub found : (its : Schema) → IsKnownSchema its → IsOf its old
+      → HasVersion version (tables_of old) × IsOpenWithOf its new (tables_of old)
+  pub still : version ≡ older_version → SeesTheSame old new
   -- with no `format` our first tables stand beside those of others
-  abbrev pub RepresentsMade : Type 0
-  RepresentsMade = HasCleanDisk new → LacksFormat old.now.schema → HasCounters old.now.schema
-      → OnOk result (IsOpenBeside old new)
+  pub made : LacksFormat old.now.schema → version ≡ our_version
+  pub free : LacksFormat old.now.schema → AreFree old.now.schema
+  pub beside : LacksFormat old.now.schema → HasCounters old.now.schema → IsOpenBeside old new
 
 module _ {S : Type 0} (g : Ghosts S) (old new : Held S) where
   -- the version and the tables of a new store, where there was no table at all

@@ -7,12 +7,10 @@ ghost use Rattle.sqlite.specs.State.{HasCleanDisk, IsUnchanged, Survives};
 ghost use Rattle.sqlite.specs.Held.{state};
 ghost use Rattle.dep_tables.specs.Tables.{IsKnown};
 ghost use Rattle.dep_tables.specs.Versions.{our_version, older_version, IsKnownVersion};
-ghost use Rattle.dep_migrations.specs.FirstTables.{no_schema, new_store_tables};
-ghost use Rattle.dep_schema.specs.OpenTables.{StaysFile, IsOpenable, CommitsBySchema, IsBack, SeesTheSame, HasOtherVersion, StaysOn};
+ghost use Rattle.dep_schema.specs.OpenTables.{IsOpenable, CommitsBySchema, IsBack, SeesTheSame, StaysOn};
 ghost use Rattle.dep_migrations.specs.Beside.{LacksFormat, AreFree};
-ghost use Rattle.dep_schema.specs.Making.{FindsNone, FindsKnown, FindsShown, AddsFirst, LeavesKnown, FindsOrMakes};
-ghost use Rattle.dep_migrations.specs.Making.{MakesFirst};
-ghost use Rattle.dep_schema.specs.Opening.{RepresentsKnown, RepresentsMade, RepresentsFresh, RepresentsFound, RepresentsAdded, WasOpen, SurvivesOpen, OpensBy, RefusesBy};
+ghost use Rattle.dep_schema.specs.Making.{FindsNone, FindsKnown, FindsShown, AreMade, FindsOrMakes};
+ghost use Rattle.dep_schema.specs.Opening.{IsPrepared, RepresentsFresh, RepresentsFound, RepresentsAdded, WasOpen, SurvivesOpen, OpensBy, RefusesBy};
 ghost use Rattle.dep_schema.specs.OpenFaults.{open_fault_number, version_reported_by, AreVersion, FindsVersion, ShowsOrMakes, begun, FailsToOpen, RefusesKnown};
 
 use crate::committing::commit;
@@ -138,13 +136,11 @@ fn version_of(rows: &[Row]) -> Result<Option<u64>, OpenFault>
 
 /// Returns the version in the table `format`, if there is that table. It has to be 1 or 2.
 fn find_format<S: Alter>(tx: &mut Transaction<'_, S>) -> Result<Option<u64>, OpenFault>
-    ensures empty { FindsNone (state S.Store tx.old.conn.now) (state S.Store tx.new.conn.now) result
-        (λ schema. schema ≡ no_schema) }
     ensures ours { FindsKnown (state S.Store tx.old.conn.now) (state S.Store tx.new.conn.now)
         result }
     ensures known { IfOk result (λ found. IfSome found IsKnownVersion) }
     ensures lacking { FindsNone (state S.Store tx.old.conn.now) (state S.Store tx.new.conn.now)
-        result LacksFormat }
+        result }
     // Whatever tables there are, it only reads.
     ensures same { HasCleanDisk (state S.Store tx.new.conn.now)
         → OnOk result (IsUnchanged (state S.Store tx.old.conn.now) (state S.Store tx.new.conn.now)) }
@@ -160,26 +156,12 @@ fn find_format<S: Alter>(tx: &mut Transaction<'_, S>) -> Result<Option<u64>, Ope
 
 /// Makes the tables where there are none. It returns the version.
 fn find_or_make<S: Alter>(tx: &mut Transaction<'_, S>) -> Result<u64, OpenFault>
-    ensures empty { MakesFirst (state S.Store tx.old.conn.now) (state S.Store tx.new.conn.now)
-        result }
-    ensures ours { LeavesKnown (state S.Store tx.old.conn.now) (state S.Store tx.new.conn.now)
-        result }
+    ensures makes { IfOk result
+        (AreMade (state S.Store tx.old.conn.now) (state S.Store tx.new.conn.now)) }
     ensures version { HasCleanDisk (state S.Store tx.new.conn.now)
         → result ≡ Err OpenFault.UnknownVersion
-        → HasOtherVersion (state S.Store tx.old.conn.now) }
-    ensures gains { AddsFirst (state S.Store tx.old.conn.now) (state S.Store tx.new.conn.now)
-        result }
-    ensures lacking { HasCleanDisk (state S.Store tx.new.conn.now)
-        → result ≡ Err OpenFault.UnknownVersion
-        → LacksFormat (state S.Store tx.old.conn.now).now.schema → ⊥ }
+        → IsOpenable (state S.Store tx.old.conn.now) → ⊥ }
     ensures reported { FindsOrMakes S.Store tx.old.conn.now tx.new.conn.now result }
-    ensures made { HasCleanDisk (state S.Store tx.new.conn.now)
-        → LacksFormat (state S.Store tx.old.conn.now).now.schema
-        → IfOk result (λ version. version ≡ our_version) }
-    // What has version 1 is left as it is.
-    ensures still { HasCleanDisk (state S.Store tx.new.conn.now)
-        → IfOk result (λ version. version ≡ older_version
-        → (state S.Store tx.new.conn.now).now ≡ (state S.Store tx.old.conn.now).now) }
     ensures known { IfOk result IsKnownVersion }
     ensures stays { StaysOn S.Store tx.old.conn tx.new.conn result }
 {
@@ -192,24 +174,11 @@ fn find_or_make<S: Alter>(tx: &mut Transaction<'_, S>) -> Result<u64, OpenFault>
 
 fn prepare<S: Alter>(connection: &mut Connection<S>) -> Result<u64, OpenFault>
     requires settled { (state S.Store connection.old).in_transaction ≡ false }
-    ensures fresh { HasCleanDisk (state S.Store connection.new)
-        → (state S.Store connection.old).now.schema ≡ no_schema
-        → OnOk result (StaysFile (state S.Store connection.new) new_store_tables) }
-    ensures found { RepresentsKnown (state S.Store connection.old) (state S.Store connection.new)
-        result }
-    ensures made { HasCleanDisk (state S.Store connection.new)
-        → LacksFormat (state S.Store connection.old).now.schema
-        → IfOk result (λ version. version ≡ our_version) }
-    ensures still { HasCleanDisk (state S.Store connection.new)
-        → IfOk result (λ version. version ≡ older_version
-        → SeesTheSame (state S.Store connection.old) (state S.Store connection.new)) }
+    ensures opens { HasCleanDisk (state S.Store connection.new)
+        → IfOk result (IsPrepared (state S.Store connection.old) (state S.Store connection.new)) }
     ensures known { IfOk result IsKnownVersion }
     ensures version { HasCleanDisk (state S.Store connection.new)
-        → result ≡ Err OpenFault.UnknownVersion
-        → HasOtherVersion (state S.Store connection.old) }
-    ensures lacking { HasCleanDisk (state S.Store connection.new)
-        → result ≡ Err OpenFault.UnknownVersion
-        → LacksFormat (state S.Store connection.old).now.schema → ⊥ }
+        → result ≡ Err OpenFault.UnknownVersion → IsOpenable (state S.Store connection.old) → ⊥ }
     ensures reported { HasCleanDisk (state S.Store connection.new)
         → MatchResult result (ShowsOrMakes S.Store (begun connection.old))
         (FailsToOpen S.Store connection.old connection.new) }
@@ -217,16 +186,9 @@ fn prepare<S: Alter>(connection: &mut Connection<S>) -> Result<u64, OpenFault>
         → IsKnown (state S.Store connection.old)
         → IfErr result
         (RefusesKnown (state S.Store connection.old) (state S.Store connection.new)) }
-    ensures free { HasCleanDisk (state S.Store connection.new)
-        → LacksFormat (state S.Store connection.old).now.schema
-        → OnOk result (AreFree (state S.Store connection.old).now.schema) }
-    ensures beside { RepresentsMade (state S.Store connection.old) (state S.Store connection.new)
-        result }
     ensures left { HasCleanDisk (state S.Store connection.new)
         → IsTrue (state S.Store connection.new).is_open
         → OnErr result (IsBack (state S.Store connection.old) (state S.Store connection.new)) }
-    ensures opened { HasCleanDisk (state S.Store connection.new)
-        → OnOk result (IsTrue (state S.Store connection.old).is_open) }
     ensures refused { IsTrue (state S.Store connection.new).is_open
         → OnErr result (IsTrue (state S.Store connection.old).is_open) }
     ensures mode { (state S.Store connection.new).in_transaction ≡ false }

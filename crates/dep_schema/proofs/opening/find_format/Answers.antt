@@ -4,7 +4,7 @@ use Rattle.dep_tables.proofs.Results.{if_ok}
 use Rattle.dep_schema.specs.Texts.{find_format_text}
 use Rattle.dep_schema.specs.OpenFaults.{FindsVersion}
 use Rattle.dep_schema.proofs.Asking.{shown_stays, reports_stay}
-use Rattle.dep_schema.proofs.Version.{find_stays, none_shown, empty_lacks}
+use Rattle.dep_schema.proofs.Version.{find_stays, none_shown}
 use Rattle.dep_schema.proofs.Refusing.{version_told, known_told, finds_told, lacking_reported, known_reported, version_reported, unchanged_reported, finds_reported}
 use Rattle.dep_schema.proofs.opening.find_format.Goals as goal
 
@@ -17,7 +17,6 @@ returns-in-Ok g c =
     let r = c.version_of.result in
     let told = subst (λ rows. FindsVersion rows r) c.as_slice.ensures.value c.version_of.ensures in
     record {
-      empty = λ clean empty. absurd (none_shown old new _ (empty_lacks _ empty) (shown clean));
       ours = λ clean known. known_told old new _ (shown clean) r told known;
       known = version_told _ r told;
       lacking = λ clean lacks. absurd (none_shown old new _ lacks (shown clean));
@@ -34,7 +33,6 @@ returns-in-Err g c =
     let failed = c.in-Err.ensures.err in
     let is = c.reported_by.ensures in
     record {
-      empty = λ clean empty. lacking_reported old new c.in-Err.error c.reported_by.result is (failed clean) (empty_lacks _ empty);
       ours = λ clean known. known_reported old new c.in-Err.error c.reported_by.result is (failed clean) known;
       known = version_reported c.in-Err.error c.reported_by.result is;
       lacking = λ clean lacks. lacking_reported old new c.in-Err.error c.reported_by.result is (failed clean) lacks;

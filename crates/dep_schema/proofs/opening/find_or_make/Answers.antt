@@ -9,7 +9,7 @@ use Rattle.dep_tables.specs.Tables.{tables_of}
 use Rattle.dep_tables.specs.Versions.{IsKnownVersion, HasVersion}
 use Rattle.dep_migrations.specs.FirstTables.{GainsOurs}
 use Rattle.dep_schema.proofs.Asking.{lent_name, stays_on}
-use Rattle.dep_schema.proofs.Version.{never_named, never_refused, not_older, reported_as}
+use Rattle.dep_schema.proofs.Version.{empty_lacks, never_named, never_refused, not_openable, not_older, reported_as}
 use Rattle.dep_schema.proofs.Refusing.{match_err, some_is_not_none, of_found, none_found, matched_some, matched_none, lent_fails}
 use Rattle.dep_schema.proofs.opening.find_or_make.Goals as goal
 
@@ -22,14 +22,9 @@ returns-in_err-version g c =
     let is_err = c.from_residual.ensures.0 in
     let is = reported_as result fault _ c.from_residual.ensures.1 in
     record {
-      empty = λ clean inside empty. IfOk-from_err result _ is_err;
-      ours = λ clean ours. IfOk-from_err result _ is_err;
-      version = λ clean said. (λ empty. reported.empty clean empty (is said), λ ours. reported.ours clean ours (is said));
-      gains = λ clean inside lacks. IfOk-from_err result _ is_err;
-      made = λ clean lacks. IfOk-from_err result _ is_err;
-      still = λ clean. IfOk-from_err result _ is_err;
+      makes = IfOk-from_err result _ is_err;
+      version = λ clean said. not_openable (state g.S.Store c.args.tx.now.conn.now) (λ lacks. reported.lacking clean lacks (is said)) (λ ours. reported.ours clean ours (is said));
       known = IfOk-from_err result _ is_err;
-      lacking = λ clean said lacks. reported.lacking clean lacks (is said);
       reported = λ clean inside. match_err _ _ result fault c.from_residual.ensures.1 (inl (reported.reported clean));
       stays = stays_err {r = Err fault} is_err reported.stays;
     }
@@ -43,14 +38,15 @@ returns-in-Some g c =
     let is = c.in-Some.is in
     let shown = subst (λ o. IfSome o IsKnownVersion) is reported.known in
     record {
-      empty = λ clean inside empty. absurd (some_is_not_none version (sym is ∙ reported.empty clean empty));
-      ours = λ clean known. (of_found (λ v. HasVersion v (tables_of (state g.S.Store c.args.tx.now.conn.now))) found version is (reported.ours clean known), (reported.same clean).0.now_is);
-      version = λ clean said. absurd (never_refused _ _ said);
-      gains = λ clean inside lacks. absurd (some_is_not_none version (sym is ∙ reported.lacking clean lacks));
-      lacking = λ clean said lacks. never_refused _ _ said;
+      makes = record {
+        empty = λ clean inside empty. absurd (some_is_not_none version (sym is ∙ reported.lacking clean (empty_lacks _ empty)));
+        gains = λ clean inside lacks. absurd (some_is_not_none version (sym is ∙ reported.lacking clean lacks));
+        new = λ clean lacks. absurd (some_is_not_none version (sym is ∙ reported.lacking clean lacks));
+        ours = λ clean known. (of_found (λ v. HasVersion v (tables_of (state g.S.Store c.args.tx.now.conn.now))) found version is (reported.ours clean known), (reported.same clean).0.now_is);
+        still = λ clean older. (reported.same clean).0.now_is;
+      };
+      version = λ clean said openable. never_refused _ _ said;
       reported = λ clean inside. (c.find_format.new.tx.conn.now, inl (matched_some _ _ found version is (reported.reported clean)));
-      made = λ clean lacks. absurd (some_is_not_none version (sym is ∙ reported.lacking clean lacks));
-      still = λ clean older. (reported.same clean).0.now_is;
       known = shown;
       stays = stays_ok reported.stays;
     }
@@ -66,18 +62,19 @@ returns g c =
     let stays = rw same at (stays_on g.S.Store c.in_ok-make_tables.ensures.works.stays) in
     let new = state g.S.Store last.conn.now in
     record {
-      empty = λ clean inside empty.
-          let before = clean_before stays clean in
-          made.ok clean (reported.stays.inside before inside) (ap (λ (d : Database). d.schema) (reported.same before).0.now_is ∙ empty);
-      ours = λ clean known. absurd (none_found (λ v. HasVersion v (tables_of (state g.S.Store c.args.tx.now.conn.now))) found c.in_default.is (reported.ours (clean_before stays clean) known));
-      version = λ clean said. absurd (never_refused _ _ said);
-      gains = λ clean inside lacks.
-          let before = clean_before stays clean in
-          subst (λ (d : Database). GainsOurs d new.now) (reported.same before).0.now_is (made.gains clean (reported.stays.inside before inside));
-      lacking = λ clean said lacks. never_refused _ _ said;
+      makes = record {
+        empty = λ clean inside empty.
+            let before = clean_before stays clean in
+            made.ok clean (reported.stays.inside before inside) (ap (λ (d : Database). d.schema) (reported.same before).0.now_is ∙ empty);
+        gains = λ clean inside lacks.
+            let before = clean_before stays clean in
+            subst (λ (d : Database). GainsOurs d new.now) (reported.same before).0.now_is (made.gains clean (reported.stays.inside before inside));
+        new = λ clean lacks. refl;
+        ours = λ clean known. absurd (none_found (λ v. HasVersion v (tables_of (state g.S.Store c.args.tx.now.conn.now))) found c.in_default.is (reported.ours (clean_before stays clean) known));
+        still = λ clean older. absurd (not_older older);
+      };
+      version = λ clean said openable. never_refused _ _ said;
       reported = λ clean inside. (c.find_format.new.tx.conn.now, inr (matched_none _ _ found c.in_default.is (reported.reported (clean_before stays clean)), refl));
-      made = λ clean lacks. refl;
-      still = λ clean older. absurd (not_older older);
       known = inl refl;
       stays = stays_ok (stays_then reported.stays stays);
     }
@@ -91,19 +88,14 @@ returns-in_err-make_tables g c =
     let fault = c.in_err-make_tables.field-0.0 in
     let is = err_from_is_err_and c.from_residual-in_err-make_tables.result c.from_residual-in_err-make_tables.ensures.1 in
     rw is.1 (record {
-      empty = λ clean inside empty. tt;
-      ours = λ clean known. tt;
-      version = λ clean said. absurd (never_named fault is.0 is.2 said);
-      gains = λ clean inside lacks. tt;
-      lacking = λ clean said lacks. never_named fault is.0 is.2 said;
+      makes = tt;
+      version = λ clean said openable. never_named fault is.0 is.2 said;
       reported = λ clean inside.
           let before = clean_before stays clean in
           let last = subst (λ t. HasCleanDisk (state g.S.Store t.conn.now)) (sym same) clean in
           let failed = subst (λ t. FailsToMake (state g.S.Store) c.find_format.new.tx.conn.now t.conn.now fault) same
           (lent_fails g.S.Store _ c.make_tables.new.tx fault (c.in_err-make_tables.ensures.works.cause last (reported.stays.inside before inside))) in
           inr (c.find_format.new.tx.conn.now, fault, matched_none _ _ c.in_ok-version.field-0 c.in_default.is (reported.reported before), reported.stays.survives, failed, is.2);
-      made = λ clean lacks. tt;
-      still = λ clean. tt;
       known = tt;
       stays = stays_err refl (stays_then {r = Err fault} reported.stays stays);
     })

@@ -1,4 +1,4 @@
-use Rattle.std.proofs.Common.{◌∙◌, Err, ap, inl, inr}
+use Rattle.std.proofs.Common.{◌∙◌, Err, ap}
 use Rattle.sqlite.specs.Held.{state}
 use Rattle.sqlite.proofs.StateLemmas.{clean_if_open}
 use Rattle.dep_schema.proofs.Again.{sees_none, finds_tables, survives_live}
@@ -14,19 +14,22 @@ returns-in-Ok g c =
     let live = c.schema-schema.ensures.live in
     record {
       fresh = λ clean none.
-          let empty = sees_none old (live (reported.opened clean)).0 none in
-          (reported.fresh clean empty, reported.made clean (empty_lacks _ empty));
-      found = λ clean its known tables held. finds_tables its c.in-Ok.found old new (live (reported.opened clean)).0 tables held (reported.found clean its known);
-      made = λ clean lacks. reported.made clean lacks;
-      still = λ clean. reported.still clean;
+          let there = reported.opens clean in
+          let empty = sees_none old (live there.opened).0 none in
+          (there.fresh empty, there.made (empty_lacks _ empty));
+      found = λ clean its known tables held.
+          let there = reported.opens clean in
+          finds_tables its c.in-Ok.found old new (live there.opened).0 tables held (there.found its known);
+      made = λ clean. (reported.opens clean).made;
+      still = λ clean. (reported.opens clean).still;
       known = reported.known;
-      free = λ clean lacks. reported.free clean lacks;
-      beside = λ clean lacks has. reported.beside clean lacks has;
+      free = λ clean. (reported.opens clean).free;
+      beside = λ clean. (reported.opens clean).beside;
       version = tt;
       reported = λ clean. reported.reported clean;
       ours = tt;
       left = tt;
-      opened = λ is_open. reported.opened (clean_if_open (g.S.Store.view store) (g.met.S.Store.shut_if_dirty store) is_open);
+      opened = λ is_open. (reported.opens (clean_if_open (g.S.Store.view store) (g.met.S.Store.shut_if_dirty store) is_open)).opened;
       mode = c.prepare.ensures.mode;
       crash = survives_live old new live c.prepare.ensures.crash;
     }
@@ -44,11 +47,7 @@ returns-in-Err g c =
       known = tt;
       free = tt;
       beside = tt;
-      version = λ clean said openable. elim openable [
-        | inl empty ↦ (c.prepare.ensures.version clean (c.in-Err.is ∙ ap Err said)).0 empty
-        | inr (inl lacks) ↦ c.prepare.ensures.lacking clean (c.in-Err.is ∙ ap Err said) lacks
-        | inr (inr there) ↦ (c.prepare.ensures.version clean (c.in-Err.is ∙ ap Err said)).1 there.0 there.1
-      ];
+      version = λ clean said. c.prepare.ensures.version clean (c.in-Err.is ∙ ap Err said);
       reported = λ clean. reported.reported clean;
       ours = λ clean known. reported.ours clean known;
       left = λ clean is_open. reported.left clean is_open;

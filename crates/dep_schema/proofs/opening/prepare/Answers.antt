@@ -5,8 +5,8 @@ use Rattle.sqlite.specs.State.{HasCleanDisk}
 use Rattle.sqlite.proofs.Callers.{survives_begin}
 use Rattle.sqlite.proofs.StateLemmas.{clean_if_open}
 use Rattle.dep_tables.proofs.Chains.{was_clean}
-use Rattle.dep_schema.proofs.Prepared.{AreMade, AreMissed, IsCommitted, IsUncommitted, IsGivenUp, on_err_by}
-use Rattle.dep_schema.proofs.Prepared.{fresh, found, made_new, still, free, beside, opened, crash, fell_back, left, refused, crash_missed}
+use Rattle.dep_schema.proofs.Prepared.{AreMadeWithin, AreMissed, IsCommitted, IsUncommitted, IsGivenUp, on_err_by}
+use Rattle.dep_schema.proofs.Prepared.{prepared, crash, fell_back, left, refused, crash_missed}
 use Rattle.dep_schema.specs.OpenFaults.{open_fault_for, FailsToFindOrMake, ShowsOrMakes, begun}
 use Rattle.dep_migrations.proofs.Causes.{if_err_is}
 use Rattle.dep_schema.proofs.Refusing.{match_err, refuses_known, uncommitted, failed_only, clean_last}
@@ -25,7 +25,6 @@ returns-in_err-version g c =
     let missed = subst (λ h. AreMissed (state g.S.Store h) (state g.S.Store last) fault) c.transaction-tx.ensures.begun
     (record {
       version = λ clean is. reported.version clean (ap Err is);
-      lacking = λ clean is. reported.lacking clean (ap Err is);
       kept = reported.stays.kept;
       survives = reported.stays.survives;
     }) in
@@ -37,20 +36,13 @@ returns-in_err-version g c =
     let before = was_clean (state g.S.Store last) (state g.S.Store new) ended.survives in
     let sure = clean_if_open (g.S.Store.view new.store) (g.met.S.Store.shut_if_dirty new.store) in
     record {
-      fresh = λ clean empty. IfOk-from_err result _ is_err;
-      found = λ clean its known ours. IfOk-from_err result _ is_err;
-      made = λ clean lacks. IfOk-from_err result _ is_err;
-      still = λ clean. IfOk-from_err result _ is_err;
+      opens = λ clean. IfOk-from_err result _ is_err;
       known = IfOk-from_err result _ is_err;
       version = λ clean said. missed.version (before clean) (reported_as result fault _ c.from_residual.ensures.1 said);
-      lacking = λ clean said. missed.lacking (before clean) (reported_as result fault _ c.from_residual.ensures.1 said);
       reported = λ clean. match_err _ _ result fault c.from_residual.ensures.1 (inl (last, failed (before clean) refl, ended.survives));
       ours = λ clean known. if_err_is _ result fault c.from_residual.ensures.1
           (refuses_known g.S.Store old last new known fault (failed (before clean) refl) missed.survives ended.survives (clean_last (state g.S.Store (begun old)) (state g.S.Store last) _ missed.survives (before clean)));
-      free = λ clean lacks. IfOk-from_err result _ is_err;
-      beside = λ clean lacks has. IfOk-from_err result _ is_err;
       left = λ clean is_open. on_err_by result (left g.S.Store old last new missed.kept ended.survives.clean ended.undone clean is_open);
-      opened = λ clean. IfOk-from_err result _ is_err;
       refused = λ is_open. on_err_by result (refused g.S.Store old last new missed.kept ended.survives.clean ended.undone sure is_open);
       mode = ended.ended;
       crash = crash_missed g.S.Store old last new missed.survives ended.survives;
@@ -66,25 +58,18 @@ returns g c =
     let reported = c.in_ok-version.ensures in
     let version = c.in_ok-version.version in
     let stays = reported.stays in
-    let made = subst (λ h. AreMade (state g.S.Store h) (state g.S.Store last) version) c.transaction-tx.ensures.begun
-    (record { empty = reported.empty; ours = reported.ours; gains = reported.gains; new = reported.made; still = reported.still; inside = stays.inside; kept = stays.kept; survives = stays.survives }) in
+    let made = subst (λ h. AreMadeWithin (state g.S.Store h) (state g.S.Store last) version) c.transaction-tx.ensures.begun
+    (record { tables = reported.makes; inside = stays.inside; kept = stays.kept; survives = stays.survives }) in
     let shown = subst (λ h. HasCleanDisk (state g.S.Store last) → IsTrue (state g.S.Store h).in_transaction → ShowsOrMakes g.S.Store h version) c.transaction-tx.ensures.begun reported.reported in
     let ended = subst (λ h. IsCommitted (state g.S.Store last) (state g.S.Store h)) same
     (record { ended = c.commit.ensures.ended; shows = λ clean. (c.in_ok-commit.ensures.ok clean).0; survives = c.commit.ensures.survives }) in
     record {
-      fresh = fresh g.S.Store old last new version made ended;
-      found = found g.S.Store old last new version made ended;
-      made = made_new g.S.Store old last new version made ended;
-      still = still g.S.Store old last new version made ended;
+      opens = prepared g.S.Store old last new version made ended;
       known = reported.known;
-      version = λ clean said. absurd (never_refused _ _ said);
-      lacking = λ clean said lacks. never_refused _ _ said;
+      version = λ clean said openable. never_refused _ _ said;
       reported = λ clean. shown (clean_last (state g.S.Store last) (state g.S.Store new) _ ended.survives clean) refl;
       ours = λ clean known. tt;
-      free = free g.S.Store old last new version made ended;
-      beside = beside g.S.Store old last new version made ended;
       left = λ clean is_open. tt;
-      opened = opened g.S.Store old last new version made ended;
       refused = λ is_open. tt;
       mode = ended.ended;
       crash = crash g.S.Store old last new version made ended.survives;
@@ -100,8 +85,8 @@ returns-in_err-commit g c =
     let reported = c.in_ok-version.ensures in
     let version = c.in_ok-version.version in
     let stays = reported.stays in
-    let made = subst (λ h. AreMade (state g.S.Store h) (state g.S.Store last) version) c.transaction-tx.ensures.begun
-    (record { empty = reported.empty; ours = reported.ours; gains = reported.gains; new = reported.made; still = reported.still; inside = stays.inside; kept = stays.kept; survives = stays.survives }) in
+    let made = subst (λ h. AreMadeWithin (state g.S.Store h) (state g.S.Store last) version) c.transaction-tx.ensures.begun
+    (record { tables = reported.makes; inside = stays.inside; kept = stays.kept; survives = stays.survives }) in
     let fault = c.in_err-commit.field-0.0 in
     let ended = subst (λ h. IsUncommitted (state g.S.Store last) (state g.S.Store h) fault) same
     (record { ended = c.commit.ensures.ended; failed = c.in_err-commit.ensures.err; survives = c.commit.ensures.survives }) in
@@ -115,21 +100,14 @@ returns-in_err-commit g c =
     let before = clean_last (state g.S.Store last) (state g.S.Store new) _ ended.survives in
     let failed = λ (clean : HasCleanDisk (state g.S.Store new)). failed_only (state g.S.Store last) (state g.S.Store new) (ended.failed clean).0 (made.inside (before clean) refl) (ended.failed clean).1 in
     record {
-      fresh = λ clean empty. IfOk-from_err result _ is_err;
-      found = λ clean its known ours. IfOk-from_err result _ is_err;
-      made = λ clean lacks. IfOk-from_err result _ is_err;
-      still = λ clean. IfOk-from_err result _ is_err;
+      opens = λ clean. IfOk-from_err result _ is_err;
       known = IfOk-from_err result _ is_err;
-      version = λ clean said. absurd (never_passed result fault is said);
-      lacking = λ clean said lacks. never_passed result fault is said;
+      version = λ clean said openable. never_passed result fault is said;
       reported = λ clean. match_err _ _ result passed is
-          (inr (last, (ended.failed clean).0, (λ lacks. (made.gains (before clean) refl lacks).free), since, failed clean, reports clean));
+          (inr (last, (ended.failed clean).0, (λ lacks. (made.tables.gains (before clean) refl lacks).free), since, failed clean, reports clean));
       ours = λ clean known. if_err_is _ result passed is
           (uncommitted g.S.Store old last new known passed (ended.failed clean).0 (failed clean) (reports clean) since ended.survives.counts (before clean));
-      free = λ clean lacks. IfOk-from_err result _ is_err;
-      beside = λ clean lacks has. IfOk-from_err result _ is_err;
       left = λ clean is_open. on_err_by result (left g.S.Store old last new made.kept ended.survives.clean undone clean is_open);
-      opened = λ clean. IfOk-from_err result _ is_err;
       refused = λ is_open. on_err_by result (refused g.S.Store old last new made.kept ended.survives.clean undone
           (clean_if_open (g.S.Store.view new.store) (g.met.S.Store.shut_if_dirty new.store)) is_open);
       mode = ended.ended;
