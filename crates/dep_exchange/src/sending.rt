@@ -32,21 +32,13 @@ const WANT_OF_MEMORY: &[u8] =
 const STORE_FAULT: &[u8] =
     b"HTTP/1.1 500 Internal Server Error\r\nContent-Length: 0\r\nConnection: close\r\n\r\n";
 
-// The fixed reply for a fault (RFC 9110, sections 15.6.1 and 15.6.4).
-fn fixed_reply(fault: StoreFault) -> &'static [u8]
-    ensures { result.now ≡ fault_reply fault }
+// The status and the fixed reply for a fault (RFC 9110, sections 15.6.1 and 15.6.4).
+fn fixed_reply(fault: StoreFault) -> (u16, &'static [u8])
+    ensures { result.1.now ≡ fault_reply fault }
 {
     match fault {
-        StoreFault::Store => STORE_FAULT,
-        StoreFault::Memory => WANT_OF_MEMORY,
-    }
-}
-
-// Its status.
-fn fixed_status(fault: StoreFault) -> u16 {
-    match fault {
-        StoreFault::Store => 500,
-        StoreFault::Memory => 503,
+        StoreFault::Store => (500, STORE_FAULT),
+        StoreFault::Memory => (503, WANT_OF_MEMORY),
     }
 }
 
@@ -59,8 +51,8 @@ pub(crate) fn send_fault<O: Outlet, L: AccessLog>(
     ensures { SendsOver (O.taken out.old) (O.taken out.new)
         (O.failures out.old) (O.failures out.new) (fault_reply fault) result }
 {
-    let fixed = fixed_reply(fault);
-    log.reply(fixed_status(fault), None);
+    let (status, fixed) = fixed_reply(fault);
+    log.reply(status, None);
     match out.write(fixed) {
         Ok(()) => Answered::GaveUp,
         Err(WriteFailed) => Answered::CutShort,
