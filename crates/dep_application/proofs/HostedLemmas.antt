@@ -8,9 +8,9 @@ use Rattle.std.specs.Prelude.{Option}
 use Rattle.dep_types.specs.State.{State, empty_state}
 use Rattle.dep_types.specs.Config.{IsChecked}
 use Rattle.dep_types.specs.declared.config.Config.{Config}
-use Rattle.dep_schema.specs.States.{StoreRepresents}
+use Rattle.dep_transactions.specs.States.{StoreRepresents}
 use Rattle.dep_schema.specs.declared.opening.OpenFault.{OpenFault}
-use Rattle.dep_schema.proofs.Transacting.{IsSettled, leaves_as_was}
+use Rattle.dep_transactions.proofs.Transacting.{IsSettled, leaves_as_was}
 use Rattle.dep_store.specs.Migrating.{KeepsDatabase}
 use Rattle.dep_commands.specs.Starting.{IsGivenOrStore, IsOpened, IsStore, OpeningLeaves, RefusesConfig, outcome_of_start}
 use Rattle.dep_commands.specs.declared.starting.StartFault.{StartFault}

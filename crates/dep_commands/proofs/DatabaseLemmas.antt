@@ -7,9 +7,9 @@ use Rattle.sqlite_trees.specs.declared.store.Store.{Ghosts}
 use Rattle.dep_types.specs.State.{State, empty_state}
 use Rattle.dep_types.specs.Config.{IsChecked}
 use Rattle.dep_types.specs.declared.config.Config.{Config}
-use Rattle.dep_schema.specs.OpenTables.{HoldsNone}
-use Rattle.dep_schema.specs.States.{StoreRepresents, IsLeftAs, DatabaseLeaves}
-use Rattle.dep_schema.proofs.Transacting.{IsSettled, leaves_as_was}
+use Rattle.dep_schema.specs.Openable.{HoldsNone}
+use Rattle.dep_transactions.specs.States.{StoreRepresents, IsLeftAs, DatabaseLeaves}
+use Rattle.dep_transactions.proofs.Transacting.{IsSettled, leaves_as_was}
 use Rattle.dep_schema.specs.declared.opening.OpenFault.{OpenFault}
 use Rattle.dep_store.specs.HashingStores.{condition_with_hashes}
 use Rattle.dep_store.specs.declared.archive.HashingStore.{HashingStore}

@@ -8,9 +8,10 @@ use Rattle.std.specs.declared.io.ErrorKind.TheVariants.{OutOfMemory}
 use Rattle.dep_types.specs.State.{State, empty_state}
 use Rattle.dep_tables.specs.Tables.{Tables}
 use Rattle.dep_tables.specs.Versions.{our_version, older_version, HasVersion}
-use Rattle.dep_schema.specs.OpenTables.{Holds, HoldsOlder, HoldsNone, StaysFile}
+use Rattle.dep_transactions.specs.OpenTables.{Holds, HoldsOlder, StaysFile}
+use Rattle.dep_schema.specs.Openable.{HoldsNone}
 use Rattle.dep_migrations.specs.FirstTables.{new_store_tables}
-use Rattle.dep_schema.specs.States.{StoreRepresents, IsLeftAs, DatabaseLeaves}
+use Rattle.dep_transactions.specs.States.{StoreRepresents, IsLeftAs, DatabaseLeaves}
 use Rattle.dep_commands.specs.Audits.{Audits, HasAuditedSome, object_rows}
 use Rattle.dep_schema.proofs.Version.{not_older}
 use Rattle.dep_store.proofs.Opened.{first_means, version_is}

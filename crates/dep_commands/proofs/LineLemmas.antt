@@ -6,7 +6,7 @@ use Rattle.std.proofs.lemmas.Grind.{flat_map-append}
 use Rattle.dep_tables.proofs.Results.{if_ok}
 use Rattle.dep_types.specs.Sinks.{IsPrefix}
 use Rattle.dep_types.specs.Writing.{HasRisen}
-use Rattle.dep_files.specs.Faults.{BlamesOutlet}
+use Rattle.dep_schema.specs.Faults.{BlamesOutlet}
 use Rattle.dep_commands.specs.Reporting.{IsWritten, WritesTo}
 use Rattle.dep_commands.specs.declared.audit_fault.AuditFault.{AuditFault}
 use Rattle.dep_commands.specs.declared.audit_fault.AuditFault.TheVariants.{Store, Writer}

@@ -6,7 +6,7 @@ use Rattle.std.specs.List.{FoldsTo}
 use Rattle.sqlite.specs.State as db
 use Rattle.sqlite.specs.Steps.{IsEmpty}
 use Rattle.sqlite.specs.Effect.{IsDatabase}
-use Rattle.dep_schema.specs.OpenTables.{HoldsNone}
+use Rattle.dep_schema.specs.Openable.{HoldsNone}
 use Rattle.dep_types.specs.Conditions.{Condition}
 use Rattle.dep_types.specs.State.{State, empty_state}
 use Rattle.dep_types.specs.Config.{IsChecked}

@@ -12,19 +12,19 @@ use Rattle.dep_statements.specs.Rows.{is_after, IsOrdered}
 use Rattle.dep_tables.specs.Tables.{Tables}
 use Rattle.dep_tables.specs.Edits.{IsObjectAfter}
 use Rattle.sqlite.specs.State.{State}
-use Rattle.dep_schema.specs.OpenTables.{StaysFile}
+use Rattle.dep_transactions.specs.OpenTables.{StaysFile}
 use Rattle.dep_types.specs.Sinks.{IsPrefix}
-use Rattle.dep_files.specs.Faults.{BlamesOutlet}
-use Rattle.dep_files.specs.Fixity.{IsAudited}
+use Rattle.dep_schema.specs.Faults.{BlamesOutlet}
+use Rattle.dep_schema.specs.Fixity.{IsAudited}
 use Rattle.dep_commands.specs.Audits.{Audited, AreAudits, object_rows, damaged_line, damaged_lines, audit_lines, checked_in, damaged_in, count_line, audit_text, outcome_of_audit, AuditIsWhole, HasAuditedSome, Audits}
 use Rattle.dep_commands.specs.Reporting.{BlamesTransfer, AuditsObject, IsPartOfObject, AuditIsReported, IsReportedTo, ReportsAudit, ReportsObjects, outcome_of_fault}
 use Rattle.dep_commands.specs.declared.audit_fault.AuditFault.{AuditFault}
-use Rattle.dep_files.specs.declared.auditing.Audit.{Audit}
+use Rattle.dep_schema.specs.declared.auditing.Audit.{Audit}
 use Rattle.dep_commands.specs.declared.tally.Tally.{Tally}
 use Rattle.dep_program.specs.declared.outcome.Outcome.{Outcome}
 use Rattle.dep_program.specs.declared.outcome.Outcome.TheVariants.{Damaged, TransferFault}
 use Rattle.dep_commands.specs.declared.audit_fault.AuditFault.TheVariants.{Store, Writer}
-use Rattle.dep_files.proofs.Walks.{next_row, no_row, none_found, row_found}
+use Rattle.dep_schema.proofs.Walks.{next_row, no_row, none_found, row_found}
 
 -- the rows of the objects rise
 pub objects_rise : {d : State} {t : Tables} → StaysFile d t → IsOrdered t.objects

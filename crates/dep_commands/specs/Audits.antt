@@ -6,8 +6,8 @@ use Rattle.sqlite_trees.specs.Tree.{rowid}
 use Rattle.dep_statements.specs.Rows.{is_after}
 use Rattle.dep_tables.specs.Tables.{Tables}
 use Rattle.dep_types.specs.Sinks.{IsPrefix}
-use Rattle.dep_files.specs.declared.auditing.Audit.{Audit}
-use Rattle.dep_files.specs.Fixity.{IsAudited}
+use Rattle.dep_schema.specs.declared.auditing.Audit.{Audit}
+use Rattle.dep_schema.specs.Fixity.{IsAudited}
 use Rattle.dep_program.specs.declared.outcome.Outcome.{Outcome}
 use Rattle.dep_program.specs.declared.outcome.Outcome.TheVariants.{Done, Usage, NoSuchObject, StoreFault, TransferFault, Damaged}
 

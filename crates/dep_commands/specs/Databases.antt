@@ -6,8 +6,8 @@ use Rattle.sqlite_trees.specs.declared.store.Store.{Ghosts}
 use Rattle.dep_types.specs.State.{State, empty_state}
 use Rattle.dep_types.specs.Config.{IsChecked}
 use Rattle.dep_types.specs.declared.config.Config.{Config}
-use Rattle.dep_schema.specs.OpenTables.{HoldsNone}
-use Rattle.dep_schema.specs.States.{StoreRepresents, IsLeftAs, DatabaseLeaves}
+use Rattle.dep_schema.specs.Openable.{HoldsNone}
+use Rattle.dep_transactions.specs.States.{StoreRepresents, IsLeftAs, DatabaseLeaves}
 use Rattle.dep_store.specs.Migrating.{KeepsDatabase, OpenLeaves}
 use Rattle.dep_exchange.specs.Records.{World, Record, Run, first_world, stopped}
 use Rattle.dep_connection.specs.Turns.{ArePieces}

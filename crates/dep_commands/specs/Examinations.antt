@@ -5,9 +5,10 @@ use Rattle.sqlite.specs.State.{HasCleanDisk}
 use Rattle.dep_types.specs.State.{State, empty_state}
 use Rattle.dep_tables.specs.Tables.{Tables}
 use Rattle.dep_tables.specs.Versions.{our_version, older_version, HasVersion}
-use Rattle.dep_schema.specs.OpenTables.{Holds, HoldsOlder, HoldsNone, StaysFile}
+use Rattle.dep_transactions.specs.OpenTables.{Holds, HoldsOlder, StaysFile}
+use Rattle.dep_schema.specs.Openable.{HoldsNone}
 use Rattle.dep_store.specs.Migrating.{IsUpgraded}
-use Rattle.dep_schema.specs.States.{TablesRepresent, IsLeftAs}
+use Rattle.dep_transactions.specs.States.{TablesRepresent, IsLeftAs}
 use Rattle.dep_commands.specs.Audits.{Audits}
 use Rattle.dep_commands.specs.Exports.{Exports}
 use Rattle.dep_program.specs.declared.outcome.Outcome.{Outcome}

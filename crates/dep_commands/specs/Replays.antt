@@ -5,7 +5,7 @@ use Rattle.dep_types.specs.State.{empty_state}
 use Rattle.dep_types.specs.Config.{IsChecked}
 use Rattle.dep_types.specs.declared.inlet.Inlet as inlet
 use Rattle.dep_types.specs.declared.outlet.Outlet as outlet
-use Rattle.dep_schema.specs.OpenTables.{HoldsNone}
+use Rattle.dep_schema.specs.Openable.{HoldsNone}
 use Rattle.dep_exchange.specs.Records.{World, first_world, Run}
 use Rattle.dep_connection.specs.Turns.{ServedPiece, pieces_of, replies_of, records_of, ArePieces, with_opened, with_closed, Exchanges, EndsAs, most_reads, reads_made, reads_after, HasLastRead}
 use Rattle.dep_connection.specs.Conversation.{WireState, Transfers, WireRests, outflow, wire}

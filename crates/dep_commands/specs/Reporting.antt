@@ -6,11 +6,11 @@ use Rattle.sqlite.specs.Order.{Row}
 use Rattle.dep_statements.specs.Rows.{is_after}
 use Rattle.dep_tables.specs.Tables.{Tables}
 use Rattle.dep_types.specs.Sinks.{IsPrefix}
-use Rattle.dep_schema.specs.OpenTables.{StaysFile}
+use Rattle.dep_transactions.specs.OpenTables.{StaysFile}
 use Rattle.dep_types.specs.Writing.{HasRisen}
-use Rattle.dep_files.specs.Faults.{BlamesOutlet}
-use Rattle.dep_files.specs.Fixity.{IsAudited}
-use Rattle.dep_files.specs.declared.auditing.Audit.{Audit}
+use Rattle.dep_schema.specs.Faults.{BlamesOutlet}
+use Rattle.dep_schema.specs.Fixity.{IsAudited}
+use Rattle.dep_schema.specs.declared.auditing.Audit.{Audit}
 use Rattle.dep_store.specs.Staying.{KeepsTables}
 use Rattle.dep_commands.specs.Audits.{Audited, AreAudits, object_rows, damaged_lines, audit_lines, checked_in, damaged_in, HasAuditedSome}
 use Rattle.dep_commands.specs.declared.audit_fault.AuditFault.{AuditFault}

@@ -8,9 +8,9 @@ use Rattle.dep_types.specs.State.{State, empty_state}
 use Rattle.dep_types.specs.Conditions.{Condition}
 use Rattle.dep_types.specs.Config.{IsChecked}
 use Rattle.dep_types.specs.declared.config.Config.{Config}
-use Rattle.dep_schema.specs.OpenTables.{HoldsNone}
+use Rattle.dep_schema.specs.Openable.{HoldsNone}
 use Rattle.sqlite_trees.specs.declared.store.Store.{Ghosts}
-use Rattle.dep_schema.specs.States.{IsLeftAs, StoreRepresents, DatabaseLeaves}
+use Rattle.dep_transactions.specs.States.{IsLeftAs, StoreRepresents, DatabaseLeaves}
 use Rattle.dep_exchange.specs.Records.{Record, Run, first_world, stopped}
 use Rattle.dep_hub.specs.Representing.{RepresentsAfter, IsHonest}
 use Rattle.dep_hub.specs.declared.hub.Hub.{Hub}

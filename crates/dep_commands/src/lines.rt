@@ -2,15 +2,15 @@
 ghost use Rattle.std.specs.Prelude.{◌≡◌, ℕ, List, IfOk, flat_map, string_bytes};
 ghost use Rattle.std.specs.Io.KnownBytes.{Appends};
 ghost use Rattle.dep_tables.specs.Tables.{Tables};
-ghost use Rattle.dep_files.specs.Faults.{BlamesOutlet};
-ghost use Rattle.dep_files.specs.Fixity.{IsAudited};
+ghost use Rattle.dep_schema.specs.Faults.{BlamesOutlet};
+ghost use Rattle.dep_schema.specs.Fixity.{IsAudited};
 ghost use Rattle.dep_commands.specs.Audits.{damaged_line, count_line, two_numbers};
 ghost use Rattle.dep_commands.specs.Reporting.{ReportsAudit, WritesTo};
 ghost use Rattle.dep_commands.specs.declared.audit_fault.AuditFault.TheVariants.{Writer};
 
 use crate::audit_fault::AuditFault;
 use crate::tally::Tally;
-use dep_files::Audit;
+use dep_schema::Audit;
 use dep_types::{Outlet, StoreFault};
 use itoa::Buffer;
 use std::alloc::Global;

@@ -6,7 +6,7 @@ ghost use Rattle.dep_program.specs.Setup.{program_config, base_at};
 ghost use Rattle.dep_commands.specs.Databases.{ServesDatabase};
 
 use crate::starting::{close_hub, open_hub};
-use dep_files::Watch;
+use dep_schema::Watch;
 use dep_program::{ListenOptions, Outcome, configuration_at, serve_at};
 use sqlite::{Alter, Connection};
 

@@ -4,7 +4,7 @@ ghost use Rattle.sqlite.specs.Held.{state};
 ghost use Rattle.sqlite.specs.State.{HasCleanDisk};
 ghost use Rattle.dep_types.specs.State.{empty_state};
 ghost use Rattle.dep_types.specs.Config.{IsChecked};
-ghost use Rattle.dep_schema.specs.OpenTables.{HoldsNone, IsOpenable};
+ghost use Rattle.dep_schema.specs.Openable.{HoldsNone, IsOpenable};
 ghost use Rattle.dep_store.specs.Causes.{FailsToOpenTables};
 ghost use Rattle.dep_store.specs.Migrating.{KeepsDatabase};
 ghost use Rattle.dep_commands.specs.Starting.{GoesOnFromStop, IsGivenOrStore, OpeningLeaves, RefusesConfig, outcome_of_start};
@@ -12,7 +12,7 @@ ghost use Rattle.dep_hub.specs.Representing.{RepresentsAfter, IsClean, IsHonest}
 ghost use Rattle.dep_store.specs.HashingStores.{condition_with_hashes};
 
 use dep_exchange::Archive;
-use dep_files::Watch;
+use dep_schema::Watch;
 use dep_hub::{Hub, HubFault};
 use dep_program::Outcome;
 use dep_schema::OpenFault;

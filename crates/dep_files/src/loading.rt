@@ -1,4 +1,4 @@
-//! The files of an object, read without their contents, and the content of one as a whole.
+//! The files of an object, read without their contents.
 
 ghost use Rattle.std.specs.Prelude.{◌≡◌, ℕ, nat_eq, map, Some, IfOk, IsTrue, option_map, option_and_then};
 ghost use Rattle.std.specs.FinMap as finmap;
@@ -8,15 +8,9 @@ ghost use Rattle.dep_types.specs.Rows.{file_row, sha512s_of};
 ghost use Rattle.dep_row_maps.specs.Clauses.{MayFind, ReadsMaps};
 ghost use Rattle.dep_row_maps.specs.TablesAre.{files_at};
 ghost use Rattle.dep_types.specs.Names.{if_passes};
-ghost use Rattle.dep_tables.specs.Tables.{IsOurs};
-ghost use Rattle.dep_files.specs.Clauses.{StaysOver, ReportsOver, FailsOver};
-ghost use Rattle.dep_files.specs.Reading.{IsLoadedFrom};
-ghost use Rattle.dep_files.specs.Causes.{FailsToLoad};
 
-use crate::streaming::stream_content;
 use dep_tables::{BlockOwner, Statements, files_of, find_sha512};
-use dep_types::{FileRow, List, Octets, StoreFault, StreamFault, Through};
-use sqlite::{Alter, Connection};
+use dep_types::{FileRow, List, StoreFault};
 use std::alloc::Global;
 
 /// The files of an object, by ascending number; none where there is no such object. A number of 2^63
@@ -84,29 +78,4 @@ pub fn find_file<T: Statements>(
         (λ s found. found ≡ option_map (file_row object file) (file_at s object file)) }
 {
     Ok(of_object(dep_tables::find_file(tx, file)?, object))
-}
-
-/// Returns the content of a file as a whole, if there is a file of this number. It takes memory for all of
-/// it, so the server never calls it: `stream_content` holds one block at a time. A number of 2^63 or more is
-/// a fault of the store.
-pub fn load_content<S: Alter>(
-    connection: &mut Connection<S>,
-    alloc: Global,
-    file: u64,
-) -> Result<Option<Octets>, StoreFault>
-    ensures loads { ReportsOver IsOurs S.Store connection.old connection.new result
-        (IsLoadedFrom file) }
-    ensures cause { FailsOver IsOurs S.Store connection.old connection.new result
-        (FailsToLoad file) }
-    ensures stays { StaysOver S.Store connection.old connection.new }
-{
-    let mut out = Through::new(Vec::new(alloc));
-    match stream_content(connection, file, &mut out) {
-        Ok(()) => Ok(Some(Octets::from_vec(out.into_inner()))),
-        Err(StreamFault::NoSuchFile) => Ok(None),
-        Err(StreamFault::Store) => Err(StoreFault::Store),
-        Err(StreamFault::Memory) => Err(StoreFault::Memory),
-        // The bytes are kept in memory, so that a write fails for want of it.
-        Err(StreamFault::Writer) => Err(StoreFault::Memory),
-    }
 }

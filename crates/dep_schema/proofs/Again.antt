@@ -10,7 +10,8 @@ use Rattle.std.proofs.Common.{ℕ}
 use Rattle.sqlite.specs.Schema.{Schema}
 use Rattle.dep_tables.specs.Tables.{Tables, tables_of, IsOf}
 use Rattle.dep_tables.specs.Versions.{HasVersion}
-use Rattle.dep_schema.specs.OpenTables.{HoldsOf, HoldsNone, IsOpenWithOf, CommitsBySchema, CommitsOpen}
+use Rattle.dep_transactions.specs.OpenTables.{HoldsOf, IsOpenWithOf}
+use Rattle.dep_schema.specs.Openable.{HoldsNone, CommitsBySchema, CommitsOpen}
 use Rattle.dep_migrations.specs.FirstTables.{no_schema, SeesOf}
 
 pub sees_trees : (its : Schema) (s : State) → IsDatabase s.now → (tables : Tables) → HoldsOf its s.now.trees tables → SeesOf its s tables

@@ -1,5 +1,5 @@
 -- Why nothing is opened.
-use Rattle.std.proofs.Common.{◌≡◌, ◌≢◌, ◌⊎◌, inl, inr, ℕ, ◌≤◌, Bool, true, false, List, [], length, IsTrue, IsSome, Option, Some, None, IfSome, Result, Ok, Err, OnOk, IfOk, IsErrAnd, MatchOption, MatchResult, refl, sym, ap, subst, subst₂, ◌∙◌, arith}
+use Rattle.std.proofs.Common.{◌≡◌, ◌≢◌, ◌⊎◌, inl, inr, ℕ, ◌≤◌, Bool, true, false, List, [], length, IsSome, Option, Some, None, IfSome, Result, Ok, Err, OnOk, IfOk, IsErrAnd, MatchOption, MatchResult, refl, sym, ap, subst, subst₂, ◌∙◌, arith}
 use Rattle.std.proofs.lemmas.Bool.{both_ways}
 use Rattle.sqlite_tied.specs.Compute.{everything}
 use Rattle.sqlite.specs.Order.{Row}
@@ -8,8 +8,7 @@ use Rattle.sqlite.specs.Tree.{Trees}
 use Rattle.sqlite.specs.Effect.{Database, RefusesToRead, RefusesQuery}
 use Rattle.sqlite.specs.Listing.{understood, reads_listing, IsSourceOf}
 use Rattle.sqlite.specs.Clock.{timed}
-use Rattle.sqlite.specs.State.{State, HasCleanDisk, Survives, Shown, Fails, HasCause, FailsToQuery, IsNotRun, FailsToShow, IsUnchanged, store_error}
-use Rattle.sqlite.specs.Steps.{FailsToCommit}
+use Rattle.sqlite.specs.State.{State, HasCleanDisk, Shown, Fails, HasCause, FailsToQuery, IsNotRun, FailsToShow, IsUnchanged, store_error}
 use Rattle.sqlite.specs.Held.{Held, state}
 use Rattle.sqlite.specs.declared.error.Error.{Error}
 use Rattle.sqlite.specs.declared.error.Error.TheVariants.{SqliteFailure, SqlInputError}
@@ -32,18 +31,16 @@ use Rattle.dep_tables.specs.Versions.{IsKnownVersion, HasVersion}
 use Rattle.dep_tables.proofs.Results.{if_ok}
 use Rattle.dep_statements.proofs.Asked.{asks_on}
 use Rattle.dep_migrations.specs.Beside.{LacksFormat}
-use Rattle.dep_schema.specs.OpenTables.{HasKnownVersion}
+use Rattle.dep_schema.specs.Openable.{HasKnownVersion}
 use Rattle.dep_schema.specs.Texts.{find_format_text}
 use Rattle.dep_tables.specs.Faults.{fault_for}
-use Rattle.dep_schema.specs.OpenFaults.{open_fault_for, version_reported_by, ReportsError, FindsVersion, ShowsVersion, ShowsNone, FailsToFindFormat, FailsToFind, FailsToFindOrMake, begun, GivesOut, RefusesKnown}
+use Rattle.dep_schema.specs.OpenFaults.{open_fault_for, version_reported_by, ReportsError, FindsVersion, ShowsVersion, ShowsNone, FailsToFindFormat, FailsToFind, FailsToFindOrMake, GivesOut, RefusesKnown}
+use Rattle.dep_transactions.specs.OpenTables.{begun}
 use Rattle.dep_migrations.specs.Faults.{FailsToMake}
-use Rattle.dep_schema.specs.declared.lending.Lent.{Lent}
+use Rattle.dep_transactions.specs.declared.lending.Lent.{Lent}
 use Rattle.dep_schema.specs.declared.opening.OpenFault.{OpenFault}
 use Rattle.dep_schema.specs.declared.opening.OpenFault.TheVariants.{UnknownVersion}
 use Rattle.dep_schema.proofs.Version.{asked, names, Finds, finds_in, found_version, none_had, ours_asked, missing_only, named_fault}
-
-pub clean_last : (last new : State) (P : Trees → Type 0) → Survives last new P → HasCleanDisk new → HasCleanDisk last
-clean_last last new P survives clean = omega (arith, clean, survives.clean)
 
 pub some_is_not_none : {A : Type 0} (a : A) → Some a ≡ None → ⊥
 some_is_not_none a is = cc
@@ -293,8 +290,3 @@ module _ {S : Type 0} (g : Ghosts S) (old new : Lent S) (fault : StoreFault) whe
   lent_fails (inr (made, adds, kept, inr (free, found, indexes, since, inl failed))) = inr (made.tx.now.conn.now, adds, kept, inr (free, found.tx.now.conn.now, indexes, since, inl failed))
   lent_fails (inr (made, adds, kept, inr (free, found, indexes, since, inr it))) =
       inr (made.tx.now.conn.now, adds, kept, inr (free, found.tx.now.conn.now, indexes, since, inr (record { at = it.at.tx.now.conn.now; since = it.since; by = it.by })))
-
--- a commit that failed in a transaction that went on failed in the store
-pub failed_only : (old new : State) (e : Error) → IsTrue old.in_transaction → FailsToCommit old new e → Fails old new ⊥ e
-failed_only old new e inside (inl failed) = failed
-failed_only old new e inside (inr late) = absurd (both_ways old.in_transaction late.1 inside)

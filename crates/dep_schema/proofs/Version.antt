@@ -33,7 +33,8 @@ use Rattle.dep_schema.proofs.Missing.{find_missing, find_plain}
 use Rattle.dep_tables.specs.Tables.{tables_of, IsKnownSchema, IsKnown}
 use Rattle.dep_tables.specs.Versions.{our_version, older_version, HasVersion}
 use Rattle.dep_migrations.specs.FirstTables.{no_schema, SeesTables, IsBeside, GainsOurs, new_store_tables}
-use Rattle.dep_schema.specs.OpenTables.{HasKnownVersion, IsOpenable, Holds, IsOpenBeside, CommitsBySchema}
+use Rattle.dep_transactions.specs.OpenTables.{Holds}
+use Rattle.dep_schema.specs.Openable.{HasKnownVersion, IsOpenable, IsOpenBeside, CommitsBySchema}
 use Rattle.dep_schema.specs.OpenFaults.{open_fault_for, AreVersion, AreKnownVersion, ShowsVersion, ReportsVersion}
 use Rattle.dep_types.specs.declared.store_fault.StoreFault.{StoreFault}
 use Rattle.dep_types.specs.declared.store_fault.StoreFault.TheVariants.{Store, Memory}

@@ -7,7 +7,7 @@ use Rattle.dep_tables.specs.Tables.{tables_of, IsKnown}
 use Rattle.dep_tables.specs.Versions.{our_version, older_version, HasVersion}
 use Rattle.dep_migrations.specs.Beside.{LacksFormat}
 use Rattle.dep_migrations.specs.FirstTables.{no_schema, new_store_tables, SeesTables, GainsOurs}
-use Rattle.dep_schema.specs.OpenTables.{HasKnownVersion}
+use Rattle.dep_schema.specs.Openable.{HasKnownVersion}
 use Rattle.dep_schema.specs.OpenFaults.{ShowsNone, ShowsVersion, FailsToFind, ShowsOrMakes, FailsToFindOrMake}
 use Rattle.dep_schema.specs.declared.opening.OpenFault.{OpenFault}
 use Rattle.dep_schema.specs.declared.opening.OpenFault.TheVariants as open_fault

@@ -1,5 +1,5 @@
 -- Why a database is not opened: by what the query for its version shows, or by a statement that fails.
-use Rattle.std.specs.Prelude.{◌≡◌, ◌≢◌, ◌⊎◌, ℕ, ℤ, pos, List, [], ◌∷◌, true, Option, None, Some, Result, Ok, Err, IsSome, MatchResult}
+use Rattle.std.specs.Prelude.{◌≡◌, ◌≢◌, ◌⊎◌, ℕ, ℤ, pos, List, [], ◌∷◌, Option, None, Some, Result, Ok, Err, IsSome, MatchResult}
 use Rattle.sqlite.specs.Order.{Row, column}
 use Rattle.sqlite.specs.declared.types.Value.TheVariants.{Int}
 use Rattle.sqlite.specs.declared.error.Error.{Error}
@@ -18,7 +18,8 @@ use Rattle.dep_tables.specs.Tables.{tables_of}
 use Rattle.dep_tables.specs.Versions.{our_version, IsKnownVersion}
 use Rattle.dep_migrations.specs.Beside.{AreFree, LacksFormat}
 use Rattle.dep_migrations.specs.Faults.{FailsToMake}
-use Rattle.dep_schema.specs.OpenTables.{HasKnownVersion}
+use Rattle.dep_transactions.specs.OpenTables.{begun}
+use Rattle.dep_schema.specs.Openable.{HasKnownVersion}
 use Rattle.dep_schema.specs.Texts.{find_format_text}
 use Rattle.dep_schema.specs.declared.opening.OpenFault.{OpenFault}
 use Rattle.dep_schema.specs.declared.opening.OpenFault.TheVariants as open_fault
@@ -117,10 +118,6 @@ module _ {S : Type 0} (g : Ghosts S) (old new : Held S) where
       ⊎ ((asked : Held S) × (reported : StoreFault) × ShowsNone (state g old) (state g asked)
       × CommitsNothing (state g old) (state g asked) × FailsToMake (state g) asked new reported
       × (fault ≡ open_fault_for reported))
-
--- the connection once a transaction was begun
-abbrev pub begun : {S : Type 0} → Held S → Held S
-begun h = record h { in_transaction = true }
 
 module _ {S : Type 0} (g : Ghosts S) (old new : Held S) where
   -- why an open fails: no tables are found or made, and its transaction is given up; or the store

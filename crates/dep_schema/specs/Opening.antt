@@ -9,8 +9,10 @@ use Rattle.dep_tables.specs.Tables.{Tables, tables_of, IsOf, IsKnownSchema}
 use Rattle.dep_tables.specs.Versions.{our_version, older_version, HasVersion}
 use Rattle.dep_migrations.specs.Beside.{LacksFormat, AreFree}
 use Rattle.dep_migrations.specs.FirstTables.{no_schema, new_store_tables}
-use Rattle.dep_schema.specs.OpenTables.{HoldsNone, HoldsOf, StaysFile, IsOpenWithOf, IsOpenBeside, SeesTheSame, CommitsOpen}
-use Rattle.dep_schema.specs.OpenFaults.{begun, ShowsOrMakes, FailsToOpen}
+use Rattle.dep_transactions.specs.OpenTables.{HoldsOf, StaysFile, IsOpenWithOf}
+use Rattle.dep_schema.specs.Openable.{HoldsNone, IsOpenBeside, SeesTheSame, CommitsOpen}
+use Rattle.dep_schema.specs.OpenFaults.{ShowsOrMakes, FailsToOpen}
+use Rattle.dep_transactions.specs.OpenTables.{begun}
 use Rattle.dep_schema.specs.declared.opening.OpenFault.{OpenFault}
 
 -- what the transaction that opened a database has made of it, by the schema that was there

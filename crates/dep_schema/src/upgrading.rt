@@ -1,45 +1,59 @@
-//! The tables of version 1 become those of version 2, in one transaction.
+//! The SHA-512 of each file, of its bytes as they stand in the tables of any version.
 
-ghost use Rattle.std.specs.Prelude.{◌≡◌, false, IsTrue, OnOk, OnErr, IfErr};
-ghost use Rattle.sqlite.specs.State.{HasCleanDisk, Survives};
 ghost use Rattle.sqlite.specs.Held.{state};
-ghost use Rattle.dep_tables.specs.Schema.{our_schema, older_schema};
-ghost use Rattle.dep_row_maps.specs.Sha512s.{upgraded};
-ghost use Rattle.dep_migrations.specs.Beside.{AreNewNamesFree};
-ghost use Rattle.dep_schema.specs.OpenTables.{IsBack};
-ghost use Rattle.dep_schema.specs.Transactions.{TransactsTo};
-ghost use Rattle.dep_schema.specs.Upgrading.{FailsToUpgrade};
+ghost use Rattle.dep_tables.specs.Tables.{IsKnown};
+ghost use Rattle.dep_schema.specs.Clauses.{FailsOver, FindsOver, ReadsOverTables, ReportsOver};
+ghost use Rattle.dep_schema.specs.Sha512s.{IsValueAfter, AreValuesOf};
+ghost use Rattle.dep_schema.specs.Causes.{FailsToHashNext, FailsToHashFiles};
 
-use crate::committing::commit;
-use crate::lending::Lent;
-use dep_migrations::upgrade_tables;
-use dep_tables::FileSha512;
+use crate::hashing::hash_blocks;
+use crate::numbers::next_file;
+use crate::watch::Watch;
+use dep_tables::{BlockOwner, FileSha512};
 use dep_types::StoreFault;
 use sqlite::{Alter, Connection};
+use std::alloc::Global;
 
-/// Turns the tables of version 1 into those of version 2, with these values of its files and none of uploads. A number of
-/// a file of 2^63 or more, and two values of one file, are a fault of the store. After a fault, also of the commit, or out of
-/// memory the tables are as they were.
-pub fn upgrade<S: Alter>(
+// The next file behind this number, if there is one, with the SHA-512 of its blocks.
+fn next_value<S: Alter, W: Watch>(
     connection: &mut Connection<S>,
-    values: &[FileSha512],
-) -> Result<(), StoreFault>
-    requires settled { (state S.Store connection.old).in_transaction ≡ false }
-    ensures upgrades { TransactsTo older_schema our_schema
-        (state S.Store connection.old) (state S.Store connection.new) result
-        (λ t _ after. after ≡ upgraded values.now t) }
-    ensures mode { (state S.Store connection.new).in_transaction ≡ false }
-    // Whatever tables there are, it goes through only where the names that it adds are free.
-    ensures free { HasCleanDisk (state S.Store connection.new)
-        → OnOk result (AreNewNamesFree (state S.Store connection.old).now.schema) }
-    ensures cause { HasCleanDisk (state S.Store connection.new)
-        → IfErr result (FailsToUpgrade S.Store connection.old connection.new values.now) }
-    ensures left { IsTrue (state S.Store connection.new).is_open
-        → OnErr result (IsBack (state S.Store connection.old) (state S.Store connection.new)) }
-    ensures crash { Survives (state S.Store connection.old) (state S.Store connection.new)
-        (λ _. AreNewNamesFree (state S.Store connection.old).now.schema) }
+    after: u64,
+    watch: &mut W,
+) -> Result<Option<FileSha512>, StoreFault>
+    ensures { FindsOver IsKnown S.Store connection.old connection.new result
+        (λ t. IsValueAfter t after) (FailsToHashNext after) }
 {
-    let mut tx = connection.transaction();
-    upgrade_tables(&mut Lent { tx: &mut tx }, values)?;
-    commit(tx)
+    let Some(file) = next_file(connection, after)? else {
+        return Ok(None);
+    };
+    let digests = hash_blocks(connection, BlockOwner::File(file), watch)?;
+    let value = digests.sha512;
+    Ok(Some(FileSha512 { file, value }))
+}
+
+/// Returns the SHA-512 of each file whose number is above 0, by ascending number: of the bytes of all blocks
+/// that name the file, by part and place, as they stand. The tables may be of any version. Each block is read
+/// once, and one is held at a time, beside the values; its length is passed to `watch`. A block that has no
+/// bytes is a fault of the store.
+pub fn hash_files<S: Alter, W: Watch>(
+    connection: &mut Connection<S>,
+    alloc: Global,
+    watch: &mut W,
+) -> Result<Vec<FileSha512>, StoreFault>
+    ensures hashes { ReportsOver IsKnown S.Store connection.old connection.new result
+        (λ t values. AreValuesOf t values.items) }
+    ensures cause { FailsOver IsKnown S.Store connection.old connection.new result
+        (FailsToHashFiles (state S.Store)) }
+    ensures reads { ReadsOverTables S.Store connection.old connection.new result }
+{
+    let mut values = Vec::new(alloc);
+    let mut last = 0;
+    'files: for _ in 0..u64::MAX {
+        let Some(value) = next_value(connection, last, watch)? else {
+            return Ok(values);
+        };
+        last = value.file;
+        values.push(value)?;
+    }
+    Err(StoreFault::Store)
 }

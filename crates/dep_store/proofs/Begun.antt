@@ -12,9 +12,9 @@ use Rattle.dep_answers.specs.declared.performed.StoredFile.{StoredFile}
 use Rattle.dep_tables.specs.Tables.{Tables, tables_of}
 use Rattle.dep_row_maps.specs.TablesAre.{TablesAre}
 use Rattle.dep_requests.specs.declared.caching.Cache.{Cache}
-use Rattle.dep_schema.specs.States.{StoreRepresents}
-use Rattle.dep_schema.specs.Transactions.{IsBackAt, IsRestored}
-use Rattle.dep_schema.proofs.Transacting.{IsSettled, stood_before}
+use Rattle.dep_transactions.specs.States.{StoreRepresents}
+use Rattle.dep_transactions.specs.Transactions.{IsBackAt, IsRestored}
+use Rattle.dep_transactions.proofs.Transacting.{IsSettled, stood_before}
 use Rattle.dep_exchange.specs.Owing.{HasBehind}
 use Rattle.dep_store.specs.Caching.{IsCached, IsOfOpen, IsKnownFile}
 use Rattle.dep_store.specs.SendingOn.{BeginsIfOpen, FindsSize, SendsNextBlocks}

@@ -12,17 +12,17 @@ use Rattle.dep_types.specs.Sound.{IsSound}
 use Rattle.dep_types.proofs.TickSound.{keeps_sound}
 use Rattle.dep_fields.specs.Fit.{AreFit}
 use Rattle.dep_tables.specs.Tables.{Tables}
-use Rattle.dep_schema.specs.OpenTables.{StaysFile}
+use Rattle.dep_transactions.specs.OpenTables.{StaysFile}
 use Rattle.dep_answers.specs.Performing.{IsReady}
 use Rattle.dep_answers.specs.Steps.{operation_step}
 use Rattle.dep_answers.specs.declared.performed.Performed.{Performed}
-use Rattle.dep_schema.specs.States.{StoreRepresents, TablesRepresent}
-use Rattle.dep_schema.specs.Transactions.{OverStates}
+use Rattle.dep_transactions.specs.States.{StoreRepresents, TablesRepresent}
+use Rattle.dep_transactions.specs.Transactions.{OverStates}
 use Rattle.dep_store.proofs.Carrying.{shown_whole}
 use Rattle.dep_requests.specs.declared.caching.Cache.{Cache}
 use Rattle.dep_requests.specs.Caching.{Covers, IsCacheOf}
 use Rattle.dep_requests.proofs.CacheLemmas.{none_is, cached_tick}
-use Rattle.dep_schema.proofs.Transacting.{stood_before}
+use Rattle.dep_transactions.proofs.Transacting.{stood_before}
 use Rattle.dep_store.specs.ReadTransactions.{ReadsOpen}
 use Rattle.dep_store.specs.Caching.{IsCached, IsReadOf, MayCache, IsOfOpen, IsKnownFile}
 

@@ -19,12 +19,12 @@ use Rattle.dep_tables.specs.Schema.{our_schema}
 use Rattle.dep_tables.specs.Tables.{Tables, tables_in, tables_of, HasOurTables, IsOurs}
 use Rattle.dep_row_maps.specs.TablesAre.{TablesAre}
 use Rattle.dep_row_maps.specs.Clauses.{FromMaps}
-use Rattle.dep_files.specs.Reading.{StaysOrRollsBack}
+use Rattle.dep_schema.specs.Reading.{StaysOrRollsBack}
 use Rattle.dep_tables.specs.Clauses.{ReadsWithin}
-use Rattle.dep_schema.specs.OpenTables.{StaysFile}
-use Rattle.dep_schema.proofs.Transacting.{IsMade, Works, began_open, committed, uncommitted}
-use Rattle.dep_schema.specs.States.{StoreRepresents}
-use Rattle.dep_schema.specs.Transactions.{FailsToEnd, OnlyReports, OverStates}
+use Rattle.dep_transactions.specs.OpenTables.{StaysFile}
+use Rattle.dep_transactions.proofs.Transacting.{IsMade, Works, began_open, committed, uncommitted}
+use Rattle.dep_transactions.specs.States.{StoreRepresents}
+use Rattle.dep_transactions.specs.Transactions.{FailsToEnd, OnlyReports, OverStates}
 use Rattle.dep_store.specs.ReadTransactions.{ReportsFrom}
 use Rattle.dep_store.specs.Tasks.{MakesTables, TransactsIfOpen}
 use Rattle.dep_store.proofs.Migrated.{represents_same, tables_kept}

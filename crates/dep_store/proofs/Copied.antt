@@ -9,9 +9,9 @@ use Rattle.dep_row_maps.specs.Stored.{state_row}
 use Rattle.dep_row_maps.specs.TablesAre.{TablesAre}
 use Rattle.dep_row_maps.proofs.Readings.{state_read}
 use Rattle.dep_row_maps.proofs.Whole.{state_written}
-use Rattle.dep_schema.specs.States.{TablesRepresent}
-use Rattle.dep_schema.specs.Transactions.{Transacts, IsRestored}
-use Rattle.dep_schema.proofs.Transacting.{IsSettled, after_back}
+use Rattle.dep_transactions.specs.States.{TablesRepresent}
+use Rattle.dep_transactions.specs.Transactions.{Transacts, IsRestored}
+use Rattle.dep_transactions.proofs.Transacting.{IsSettled, after_back}
 use Rattle.dep_exchange.specs.Archives.{Always}
 use Rattle.dep_store.specs.Copying.{CopiesLog, RewritesClock}
 use Rattle.dep_store.specs.Shut.{StoreFailsIfShut}

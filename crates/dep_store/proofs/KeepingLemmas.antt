@@ -16,8 +16,8 @@ use Rattle.dep_staging.specs.HashedAhead.{AreRunning, IsRunning}
 use Rattle.dep_staging.specs.declared.running.RunningHash.{RunningHash}
 use Rattle.dep_staging.specs.declared.running.RunningHashes.{RunningHashes}
 use Rattle.dep_staging.proofs.AheadLemmas.{still_hashed}
-use Rattle.dep_schema.specs.Performing.{KeepsRunning}
-use Rattle.dep_schema.specs.States.{StoreRepresents}
+use Rattle.dep_transactions.specs.Performing.{KeepsRunning}
+use Rattle.dep_transactions.specs.States.{StoreRepresents}
 use Rattle.dep_types.specs.Conditions.{Condition, Represents, HasCleanDisk}
 use Rattle.dep_exchange.specs.Archives.{TriesTo, Always, KeepsState, KeepsAll, KeepsEachState, FailsIfShut}
 use Rattle.dep_exchange.proofs.Leaving.{Settles, leaves_before, leaves_once}

@@ -22,11 +22,11 @@ use Rattle.dep_answers.specs.declared.performed.Performed.{Performed}
 use Rattle.dep_answers.specs.declared.performed.StoredFile.{StoredFile}
 use Rattle.dep_requests.specs.declared.performing.Done.{Done}
 use Rattle.dep_staging.specs.declared.running.RunningHashes.{RunningHashes}
-use Rattle.dep_schema.specs.Performing.{KeepsRunning, StepsAlone, StepsOver, ReportsChanges, IsBackUnchanged}
-use Rattle.dep_schema.specs.States.{StoreRepresents}
-use Rattle.dep_schema.specs.Transactions.{FindsOpen, Transacts}
-use Rattle.dep_schema.proofs.Transacting.{IsSettled, after_back, given_back_then}
-use Rattle.dep_files.proofs.Streams.{IsSized}
+use Rattle.dep_transactions.specs.Performing.{KeepsRunning, StepsAlone, StepsOver, ReportsChanges, IsBackUnchanged}
+use Rattle.dep_transactions.specs.States.{StoreRepresents}
+use Rattle.dep_transactions.specs.Transactions.{FindsOpen, Transacts}
+use Rattle.dep_transactions.proofs.Transacting.{IsSettled, after_back, given_back_then}
+use Rattle.dep_schema.proofs.Streams.{IsSized}
 use Rattle.dep_requests.specs.Caching.{has_value, is_plain_read}
 use Rattle.dep_store.specs.Caching.{IsOfSize}
 use Rattle.dep_store.specs.Shut.{StoreFailsIfShut}

@@ -10,14 +10,14 @@ use Rattle.dep_statements.specs.Rows.{IsOrdered}
 use Rattle.dep_tables.specs.Schema.{our_schema, older_schema}
 use Rattle.dep_tables.specs.Tables.{Tables, tables_in, tables_of, HasTablesOf, IsKnown}
 use Rattle.dep_row_maps.specs.Sha512s.{upgraded}
-use Rattle.dep_schema.specs.OpenTables.{IsBack, StaysFile, IsOpenWithOf, IsOpenWithOlder}
-use Rattle.dep_schema.specs.Transactions.{TransactsTo}
-use Rattle.dep_schema.proofs.Transactions.{represents_left}
-use Rattle.dep_schema.proofs.Transacting.{IsSettled, left_still}
-use Rattle.dep_files.specs.Reading.{StaysOrRollsBack}
-use Rattle.dep_files.specs.Sha512s.{AreValuesOf}
-use Rattle.dep_files.proofs.Upgraded.{stand_upgraded}
-use Rattle.dep_schema.specs.States.{TablesRepresent, OlderTablesRepresent, StoreRepresents, OlderRepresents, IsLeftAs}
+use Rattle.dep_transactions.specs.OpenTables.{IsBack, StaysFile, IsOpenWithOf, IsOpenWithOlder}
+use Rattle.dep_transactions.specs.Transactions.{TransactsTo}
+use Rattle.dep_transactions.proofs.Transactions.{represents_left}
+use Rattle.dep_transactions.proofs.Transacting.{IsSettled, left_still}
+use Rattle.dep_schema.specs.Reading.{StaysOrRollsBack}
+use Rattle.dep_schema.specs.Sha512s.{AreValuesOf}
+use Rattle.dep_schema.proofs.Upgraded.{stand_upgraded}
+use Rattle.dep_transactions.specs.States.{TablesRepresent, OlderTablesRepresent, StoreRepresents, OlderRepresents, IsLeftAs}
 use Rattle.dep_store.specs.Migrating.{IsUpgraded, Migrates}
 
 pub known_older : (d : db.State) (t : Tables) → IsOpenWithOlder d t → IsKnown d

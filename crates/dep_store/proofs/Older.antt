@@ -11,8 +11,10 @@ use Rattle.dep_migrations.specs.Beside.{AreNewNamesFree}
 use Rattle.dep_types.specs.declared.store_fault.StoreFault.{StoreFault}
 use Rattle.dep_types.specs.declared.store_fault.StoreFault.TheVariants as fault
 use Rattle.dep_schema.specs.declared.opening.OpenFault.TheVariants.{UnknownVersion}
-use Rattle.dep_schema.specs.OpenFaults.{begun, open_fault_for, ShowsOrMakes, ShowsVersion, ReportsVersion}
-use Rattle.dep_schema.specs.OpenTables.{IsBack, SeesTheSame}
+use Rattle.dep_schema.specs.OpenFaults.{open_fault_for, ShowsOrMakes, ShowsVersion, ReportsVersion}
+use Rattle.dep_transactions.specs.OpenTables.{begun}
+use Rattle.dep_transactions.specs.OpenTables.{IsBack}
+use Rattle.dep_schema.specs.Openable.{SeesTheSame}
 use Rattle.dep_migrations.proofs.Upgraded.{new_not_free}
 use Rattle.dep_schema.proofs.Version.{not_older, shows_again}
 use Rattle.dep_store.specs.Causes.{HadFreeNames}

@@ -13,11 +13,12 @@ use Rattle.dep_tables.specs.Schema.{our_schema, older_schema}
 use Rattle.dep_tables.specs.Tables.{Tables, tables_in, HasTablesOf, IsKnownSchema}
 use Rattle.dep_tables.specs.Versions.{our_version, older_version, HasVersion}
 use Rattle.dep_migrations.specs.FirstTables.{new_store_tables}
-use Rattle.dep_schema.specs.OpenTables.{HoldsOf, HoldsNone, IsOpenWithOf, CommitsOpen, IsOpenable, IsBack}
+use Rattle.dep_transactions.specs.OpenTables.{HoldsOf, IsOpenWithOf, IsBack}
+use Rattle.dep_schema.specs.Openable.{HoldsNone, CommitsOpen, IsOpenable}
 use Rattle.dep_schema.proofs.Again.{sees_trees}
-use Rattle.dep_schema.proofs.Transacting.{IsSettled}
+use Rattle.dep_transactions.proofs.Transacting.{IsSettled}
 use Rattle.dep_schema.proofs.Version.{not_older}
-use Rattle.dep_schema.specs.States.{TablesRepresent, StoreRepresents, OlderRepresents, IsLeftAs}
+use Rattle.dep_transactions.specs.States.{TablesRepresent, StoreRepresents, OlderRepresents, IsLeftAs}
 use Rattle.dep_store.specs.Migrating.{Migrates, Stood, OpenLeaves}
 use Rattle.dep_store.proofs.Migrated.{stop_states}
 

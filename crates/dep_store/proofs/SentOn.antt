@@ -14,9 +14,9 @@ use Rattle.dep_types.specs.declared.stream_fault.StreamFault.{StreamFault}
 use Rattle.dep_types.specs.declared.stream_fault.StreamFault.TheVariants.{Writer, Store, Memory, NoSuchFile}
 use Rattle.dep_answers.specs.declared.performed.StoredFile.{StoredFile}
 use Rattle.dep_staging.specs.NextBytes.{IsNextIn}
-use Rattle.dep_schema.specs.States.{StoreRepresents}
-use Rattle.dep_schema.specs.Transactions.{FindsOpen, IsRestored}
-use Rattle.dep_schema.proofs.Transacting.{IsSettled, back_then, leaves_still, none_then}
+use Rattle.dep_transactions.specs.States.{StoreRepresents}
+use Rattle.dep_transactions.specs.Transactions.{FindsOpen, IsRestored}
+use Rattle.dep_transactions.proofs.Transacting.{IsSettled, back_then, leaves_still, none_then}
 use Rattle.dep_exchange.specs.Archives.{KeepsState}
 use Rattle.dep_exchange.specs.Owing.{HasBehind, IsPrefixBehind, IsSentOn, StreamsOn, TakesFew}
 use Rattle.dep_store.specs.Archive.{shown_by}

@@ -14,9 +14,9 @@ use Rattle.dep_types.specs.declared.store_fault.StoreFault.{StoreFault}
 use Rattle.dep_exchange.specs.Shut.{ReportsOpen}
 use Rattle.dep_store.specs.Archive.{shown_by}
 use Rattle.sqlite.specs.Schema.{Schema}
-use Rattle.dep_schema.specs.States.{StoreRepresents}
-use Rattle.dep_schema.specs.Transactions.{IsBackAt, IsRestored}
-use Rattle.dep_schema.proofs.Transacting.{tables_back}
+use Rattle.dep_transactions.specs.States.{StoreRepresents}
+use Rattle.dep_transactions.specs.Transactions.{IsBackAt, IsRestored}
+use Rattle.dep_transactions.proofs.Transacting.{tables_back}
 use Rattle.dep_store.specs.Shut.{ReportsPrepared, StoreFailsToReport, StoreLeavesNoMore, StoreFailsIfShut, StaysOpen}
 use Rattle.sqlite.specs.Listing.{understood}
 use Rattle.sqlite_tied.specs.Compute.{everything}

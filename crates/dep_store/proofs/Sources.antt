@@ -2,8 +2,8 @@
 use Rattle.std.proofs.Common.{Result, Ok, Err, OnOk, OnErr, IsTrue}
 use Rattle.sqlite.specs.State as db
 use Rattle.dep_types.specs.State.{State}
-use Rattle.dep_schema.specs.States.{StoreRepresents}
-use Rattle.dep_schema.proofs.Transacting.{kept_alone}
+use Rattle.dep_transactions.specs.States.{StoreRepresents}
+use Rattle.dep_transactions.proofs.Transacting.{kept_alone}
 use Rattle.dep_bag.specs.Source.{StandsStill}
 use Rattle.dep_exchange.specs.Archives.{Reports}
 use Rattle.dep_exchange.proofs.Leaving.{leaves_once}

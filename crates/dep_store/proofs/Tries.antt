@@ -11,11 +11,11 @@ use Rattle.dep_types.specs.declared.stream_fault.StreamFault.{StreamFault}
 use Rattle.dep_types.specs.declared.stream_fault.StreamFault.TheVariants.{Writer, Store as StoreFails}
 use Rattle.dep_tables.specs.Tables.{Tables}
 use Rattle.dep_tables.proofs.Results.{if_failed}
-use Rattle.dep_files.specs.Faults.{BlamesOutlet}
-use Rattle.dep_schema.specs.OpenTables.{Holds, StaysFile}
-use Rattle.dep_schema.specs.States.{TablesRepresent, StoreRepresents, DatabaseLeaves}
-use Rattle.dep_schema.specs.Transactions.{Transacts, OnlyReports, OverStates, IsBackAt, IsGivenBack, IsRestored}
-use Rattle.dep_schema.proofs.Transacting.{IsSettled, IsOver, ok_over_states, err_state, stop_over_states, ok_reports, still_reports, left_reports, leaves_still, leaves_as_was}
+use Rattle.dep_schema.specs.Faults.{BlamesOutlet}
+use Rattle.dep_transactions.specs.OpenTables.{Holds, StaysFile}
+use Rattle.dep_transactions.specs.States.{TablesRepresent, StoreRepresents, DatabaseLeaves}
+use Rattle.dep_transactions.specs.Transactions.{Transacts, OnlyReports, OverStates, IsBackAt, IsGivenBack, IsRestored}
+use Rattle.dep_transactions.proofs.Transacting.{IsSettled, IsOver, ok_over_states, err_state, stop_over_states, ok_reports, still_reports, left_reports, leaves_still, leaves_as_was}
 use Rattle.dep_exchange.specs.Archives.{TriesTo, Ticks, Reports, KeepsState, KeepsAll, Always, CountsFailures}
 use Rattle.dep_store.specs.Archive.{shown_by}
 use Rattle.dep_store.specs.Shut.{StoreFailsIfShut, StoreSendsFile}

@@ -4,7 +4,7 @@ use Rattle.sqlite.specs.Held.{Held, state}
 use Rattle.sqlite.specs.Tree.{Trees}
 use Rattle.sqlite_trees.specs.declared.store.Store.{Ghosts}
 use Rattle.dep_types.specs.Conditions.{Condition}
-use Rattle.dep_schema.specs.States.{StoreRepresents, IsLeftAs}
+use Rattle.dep_transactions.specs.States.{StoreRepresents, IsLeftAs}
 
 -- what its database shows
 abbrev pub shown_by : db.State → Condition

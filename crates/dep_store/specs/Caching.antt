@@ -5,7 +5,7 @@ use Rattle.dep_types.specs.State.{State, File, file_at}
 use Rattle.dep_types.specs.declared.config.Config.{Config}
 use Rattle.dep_answers.specs.declared.performed.StoredFile.{StoredFile}
 use Rattle.dep_requests.specs.declared.caching.Cache.{Cache}
-use Rattle.dep_schema.specs.States.{StoreRepresents}
+use Rattle.dep_transactions.specs.States.{StoreRepresents}
 use Rattle.dep_requests.specs.Caching.{IsCacheOf}
 
 -- what is cached is that of each state for which the database stands

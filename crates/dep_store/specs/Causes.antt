@@ -8,12 +8,13 @@ use Rattle.dep_tables.specs.Tables.{tables_of, IsKnown}
 use Rattle.dep_tables.specs.Versions.{our_version, older_version}
 use Rattle.dep_tables.specs.declared.sha512s.FileSha512.{FileSha512}
 use Rattle.dep_migrations.specs.Beside.{AreNewNamesFree}
-use Rattle.dep_schema.specs.OpenFaults.{open_fault_for, begun, FailsToOpen, ShowsOrMakes, ReportsVersion}
-use Rattle.dep_schema.specs.OpenTables.{SeesTheSame}
-use Rattle.dep_schema.specs.Upgrading.{FailsToUpgrade}
+use Rattle.dep_schema.specs.OpenFaults.{open_fault_for, FailsToOpen, ShowsOrMakes, ReportsVersion}
+use Rattle.dep_transactions.specs.OpenTables.{begun}
+use Rattle.dep_schema.specs.Openable.{SeesTheSame}
+use Rattle.dep_transactions.specs.Upgrading.{FailsToUpgrade}
 use Rattle.dep_schema.specs.declared.opening.OpenFault.{OpenFault}
-use Rattle.dep_files.specs.Causes.{FailsToHashFiles}
-use Rattle.dep_files.specs.Sha512s.{AreValuesOf}
+use Rattle.dep_schema.specs.Causes.{FailsToHashFiles}
+use Rattle.dep_schema.specs.Sha512s.{AreValuesOf}
 
 module _ {S : Type 0} (g : Ghosts S) (old : Held S) where
   -- The names that version 2 has beside version 1 were free once the values were computed. To compute them changes nothing

@@ -5,7 +5,7 @@ use Rattle.dep_tables.specs.Edits.{HasStateRow, with_state_row}
 use Rattle.dep_tables.specs.Tables.{Tables}
 use Rattle.dep_tables.specs.declared.state.StateRow.{StateRow}
 use Rattle.dep_exchange.specs.Archives.{KeepsState}
-use Rattle.dep_schema.specs.Transactions.{Transacts}
+use Rattle.dep_transactions.specs.Transactions.{Transacts}
 use Rattle.dep_store.specs.Archive.{shown_by}
 use Rattle.dep_store.specs.Shut.{StoreFailsIfShut}
 

@@ -8,7 +8,7 @@ use Rattle.dep_types.specs.Conditions.{Condition}
 use Rattle.dep_types.specs.State.{State}
 use Rattle.dep_staging.specs.HashedAhead.{AreRunning}
 use Rattle.dep_staging.specs.declared.running.RunningHashes.{RunningHashes}
-use Rattle.dep_schema.specs.States.{StoreRepresents, IsLeftAs}
+use Rattle.dep_transactions.specs.States.{StoreRepresents, IsLeftAs}
 use Rattle.dep_exchange.specs.ArchiveCalls.{CallLog}
 use Rattle.dep_store.specs.LogCopies.{has_call}
 use Rattle.dep_store.specs.declared.archive.HashingStore.{HashingStore}

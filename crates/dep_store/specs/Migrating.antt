@@ -11,11 +11,12 @@ use Rattle.dep_tables.specs.Versions.{our_version, older_version, HasVersion}
 use Rattle.dep_tables.specs.declared.sha512s.FileSha512.{FileSha512}
 use Rattle.dep_row_maps.specs.Sha512s.{upgraded}
 use Rattle.dep_schema.specs.OpenFaults.{ReportsVersion}
-use Rattle.dep_schema.specs.OpenTables.{Holds, HoldsOlder, HoldsNone, StaysFile, IsOpenWithOlder, IsBack, IsOpenable}
-use Rattle.dep_schema.specs.States.{StoreRepresents, OlderRepresents, IsLeftAs, DatabaseLeaves}
+use Rattle.dep_transactions.specs.OpenTables.{Holds, HoldsOlder, StaysFile, IsOpenWithOlder, IsBack}
+use Rattle.dep_schema.specs.Openable.{HoldsNone, IsOpenable}
+use Rattle.dep_transactions.specs.States.{StoreRepresents, OlderRepresents, IsLeftAs, DatabaseLeaves}
 use Rattle.dep_schema.specs.declared.opening.OpenFault.{OpenFault}
 use Rattle.dep_schema.specs.declared.opening.OpenFault.TheVariants.{UnknownVersion}
-use Rattle.dep_files.specs.Sha512s.{AreValuesOf}
+use Rattle.dep_schema.specs.Sha512s.{AreValuesOf}
 
 -- version 2, with the values of the files as their bytes stand
 pub record IsUpgraded (t after : Tables) : Type 0 where

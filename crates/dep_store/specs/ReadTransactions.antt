@@ -6,8 +6,8 @@ use Rattle.dep_types.specs.State.{State}
 use Rattle.dep_types.specs.Sound.{IsSound}
 use Rattle.dep_row_maps.specs.Clauses.{FromMaps}
 use Rattle.dep_exchange.specs.Archives.{KeepsAll}
-use Rattle.dep_schema.specs.States.{StoreRepresents}
-use Rattle.dep_schema.specs.Transactions.{FindsOpen, IsRestored}
+use Rattle.dep_transactions.specs.States.{StoreRepresents}
+use Rattle.dep_transactions.specs.Transactions.{FindsOpen, IsRestored}
 use Rattle.dep_store.specs.Archive.{shown_by}
 use Rattle.dep_store.specs.Staying.{LeavesOnly}
 

@@ -8,8 +8,8 @@ use Rattle.dep_types.specs.Writing.{TakesPart}
 use Rattle.dep_types.specs.declared.stream_fault.StreamFault.{StreamFault}
 use Rattle.dep_types.specs.declared.stream_fault.StreamFault.TheVariants.{Writer, Store, Memory, NoSuchFile}
 use Rattle.dep_answers.specs.declared.performed.StoredFile.{StoredFile}
-use Rattle.dep_schema.specs.States.{StoreRepresents}
-use Rattle.dep_schema.specs.Transactions.{FindsOpen}
+use Rattle.dep_transactions.specs.States.{StoreRepresents}
+use Rattle.dep_transactions.specs.Transactions.{FindsOpen}
 use Rattle.dep_exchange.specs.Archives.{KeepsState, CountsFailures}
 use Rattle.dep_exchange.specs.Owing.{Begins, StreamsOn, TakesFew, step_bytes}
 use Rattle.dep_store.specs.Archive.{shown_by}

@@ -10,7 +10,7 @@ use Rattle.dep_types.specs.declared.store_fault.StoreFault.TheVariants.{Store}
 use Rattle.dep_types.specs.declared.stream_fault.StreamFault.{StreamFault}
 use Rattle.dep_types.specs.declared.config.Config.{Config}
 use Rattle.dep_tables.specs.Faults.{fault_for}
-use Rattle.dep_schema.specs.Transactions.{IsBackAt}
+use Rattle.dep_transactions.specs.Transactions.{IsBackAt}
 use Rattle.dep_exchange.specs.Archives.{Ticks, Streams, KeepsState, CountsFailures}
 use Rattle.dep_store.specs.Archive.{shown_by}
 

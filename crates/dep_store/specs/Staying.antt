@@ -6,9 +6,9 @@ use Rattle.dep_types.specs.State.{State}
 use Rattle.dep_tables.specs.Tables.{Tables}
 use Rattle.dep_exchange.specs.Archives.{KeepsAll}
 use Rattle.dep_staging.specs.declared.running.RunningHashes.{RunningHashes}
-use Rattle.dep_schema.specs.OpenTables.{Holds, StaysFile}
-use Rattle.dep_schema.specs.Performing.{KeepsRunning}
-use Rattle.dep_schema.specs.States.{StoreRepresents, DatabaseLeaves}
+use Rattle.dep_transactions.specs.OpenTables.{Holds, StaysFile}
+use Rattle.dep_transactions.specs.Performing.{KeepsRunning}
+use Rattle.dep_transactions.specs.States.{StoreRepresents, DatabaseLeaves}
 use Rattle.dep_store.specs.Archive.{shown_by}
 
 -- whatever its tables are, they stay, while it is open

@@ -4,7 +4,7 @@ use Rattle.sqlite.specs.State as db
 use Rattle.sqlite.specs.State.{HasCleanDisk}
 use Rattle.dep_tables.specs.Clauses.{StaysWithin}
 use Rattle.dep_tables.specs.Tables.{Tables, tables_of, IsOurs}
-use Rattle.dep_schema.specs.Transactions.{Transacts}
+use Rattle.dep_transactions.specs.Transactions.{Transacts}
 
 -- inside a transaction over our tables an Ok makes this of them, and they are ours still
 pub record MakesTables {T L A E : Type 0} (lenders : T → L) (state : T → db.State) (old new : T)

@@ -5,7 +5,7 @@ ghost use Rattle.std.specs.Prelude.{◌≡◌, false, is_some, IsTrue};
 ghost use Rattle.sqlite.proofs.StateLemmas.{clean_if_open};
 ghost use Rattle.dep_types.specs.State.{State};
 ghost use Rattle.dep_staging.specs.HashedAhead.{AreRunning};
-ghost use Rattle.dep_schema.proofs.Transacting.{leaves_as_was};
+ghost use Rattle.dep_transactions.proofs.Transacting.{leaves_as_was};
 ghost use Rattle.dep_exchange.specs.ArchiveCalls.{Runs, WorkedAhead};
 ghost use Rattle.dep_exchange.specs.Archives.{CommitsIfDue, KeepsEachState};
 ghost use Rattle.dep_store.specs.HashingStores.{call_log_of, condition_with_hashes, may_commit};

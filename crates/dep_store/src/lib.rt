@@ -16,5 +16,5 @@ mod tasks;
 mod ticking;
 
 pub use archive::HashingStore;
-pub use dep_files::{Unwatched, Watch};
+pub use dep_schema::{Unwatched, Watch};
 pub use store::Store;

@@ -5,8 +5,8 @@ ghost use Rattle.sqlite.specs.Held.{state};
 ghost use Rattle.dep_store.specs.Causes.{FailsMigrating, MigratesToFree};
 ghost use Rattle.dep_store.specs.Migrating.{FallsBack, Migrates};
 
-use dep_files::{Watch, hash_files};
-use dep_schema::upgrade;
+use dep_schema::{Watch, hash_files};
+use dep_transactions::upgrade;
 use dep_types::StoreFault;
 use sqlite::{Alter, Connection};
 use std::alloc::Global;

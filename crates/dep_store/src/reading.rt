@@ -17,8 +17,8 @@ impl Task for ViewObject {
     ghost use Rattle.std.specs.Prelude.{◌≡◌};
     ghost use Rattle.dep_types.specs.State.{State};
     ghost use Rattle.dep_bag.specs.Source.{view_at};
-    ghost use Rattle.dep_schema.specs.States.{TablesRepresent};
-    ghost use Rattle.dep_schema.specs.Transactions.{OnlyReports};
+    ghost use Rattle.dep_transactions.specs.States.{TablesRepresent};
+    ghost use Rattle.dep_transactions.specs.Transactions.{OnlyReports};
 
     type Answer = Option<ObjectView>;
 
@@ -38,7 +38,7 @@ pub(crate) struct NextObject {
 
 impl Task for NextObject {
     ghost use Rattle.dep_tables.specs.Edits.{IsObjectAfter};
-    ghost use Rattle.dep_schema.specs.Transactions.{OnlyReports};
+    ghost use Rattle.dep_transactions.specs.Transactions.{OnlyReports};
 
     type Answer = Option<u64>;
 

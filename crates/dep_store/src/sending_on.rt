@@ -2,7 +2,7 @@
 
 ghost use Rattle.std.specs.Prelude.{◌≡◌, ◌<◌, false};
 ghost use Rattle.sqlite.specs.Held.{state};
-ghost use Rattle.dep_files.specs.Faults.{BlamesOutlet};
+ghost use Rattle.dep_schema.specs.Faults.{BlamesOutlet};
 ghost use Rattle.dep_store.specs.Caching.{IsKnownFile};
 ghost use Rattle.dep_store.specs.SendingOn.{FindsSize, GivesNext, SendsNextBlocks};
 

@@ -6,7 +6,7 @@ use dep_types::{ObjectView, Outlet, StoreFault, StreamFault};
 use sqlite::Alter;
 
 impl<S: Alter> BagSource for Store<S> {
-    ghost use Rattle.dep_schema.proofs.Transacting.{leaves_as_was};
+    ghost use Rattle.dep_transactions.proofs.Transacting.{leaves_as_was};
     ghost use Rattle.dep_store.specs.Archive.{condition_of};
 
     ghost condition = { condition_of S.Store };

@@ -4,7 +4,7 @@ ghost use Rattle.sqlite.specs.Held.{state};
 ghost use Rattle.dep_tables.specs.Tables.{Tables};
 ghost use Rattle.dep_store.specs.Tasks.{MakesTables, TransactsIfOpen};
 
-use dep_schema::{Lent, commit};
+use dep_transactions::{Lent, commit};
 use dep_tables::Statements;
 use dep_types::StoreFault;
 use sqlite::{Alter, Connection};

@@ -15,7 +15,7 @@ pub(crate) struct MoveClock<'a> {
 impl<'a> Task for MoveClock<'a> {
     ghost use Rattle.std.specs.Prelude.{◌≡◌};
     ghost use Rattle.dep_types.specs.State.{tick};
-    ghost use Rattle.dep_schema.specs.Transactions.{OverStates};
+    ghost use Rattle.dep_transactions.specs.Transactions.{OverStates};
 
     type Answer = Moment;
 

@@ -2,7 +2,7 @@ use Rattle.std.proofs.Common.{◌∙◌, ◌++◌, ◌<◌, ℕ, List, Err, sym,
 use Rattle.std.proofs.KnownBytes.{Appends-trans}
 use Rattle.dep_commands.specs.Audits.{AuditIsWhole, outcome_of_audit}
 use Rattle.dep_program.specs.declared.outcome.Outcome.TheVariants.{Done, Damaged, StoreFault}
-use Rattle.dep_files.specs.Faults.{BlamesOutlet}
+use Rattle.dep_schema.specs.Faults.{BlamesOutlet}
 use Rattle.dep_commands.specs.declared.audit_fault.AuditFault.TheVariants.{Writer}
 use Rattle.dep_commands.proofs.ReportLemmas.{all_whole, all_begun, is_damaged, fault_begun, no_transfer, transfer_of}
 use Rattle.dep_commands.proofs.reporting.audit_all.Goals as goal

@@ -1,7 +1,7 @@
 use Rattle.std.proofs.Common.{◌≡◌, ℕ, List}
 use Rattle.sqlite.specs.State.{HasCleanDisk}
 use Rattle.sqlite.specs.Held.{state}
-use Rattle.dep_schema.specs.OpenTables.{StaysFile}
+use Rattle.dep_transactions.specs.OpenTables.{StaysFile}
 use Rattle.std.specs.Io.KnownBytes.{Appends}
 use Rattle.dep_tables.specs.Tables.{Tables}
 use Rattle.dep_store.specs.Staying.{KeepsTables}

@@ -5,7 +5,7 @@ use Rattle.dep_types.specs.Config.{IsChecked}
 use Rattle.dep_types.specs.State.{State, empty_state}
 use Rattle.dep_store.specs.HashingStores.{KeepsHashed}
 use Rattle.dep_store.specs.Migrating.{OpenLeaves}
-use Rattle.dep_schema.specs.States.{StoreRepresents}
+use Rattle.dep_transactions.specs.States.{StoreRepresents}
 use Rattle.dep_schema.specs.declared.opening.OpenFault.{OpenFault}
 use Rattle.dep_exchange.specs.Records.{begins, first_world}
 use Rattle.dep_hub.specs.declared.faults.HubFault.{HubFault}

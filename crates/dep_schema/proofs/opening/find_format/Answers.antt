@@ -3,7 +3,7 @@ use Rattle.sqlite.specs.Held.{state}
 use Rattle.dep_tables.proofs.Results.{if_ok}
 use Rattle.dep_schema.specs.Texts.{find_format_text}
 use Rattle.dep_schema.specs.OpenFaults.{FindsVersion}
-use Rattle.dep_schema.proofs.Asking.{shown_stays, reports_stay}
+use Rattle.dep_transactions.proofs.Asking.{shown_stays, reports_stay}
 use Rattle.dep_schema.proofs.Version.{find_stays, none_shown}
 use Rattle.dep_schema.proofs.Refusing.{version_told, known_told, finds_told, lacking_reported, known_reported, version_reported, unchanged_reported, finds_reported}
 use Rattle.dep_schema.proofs.opening.find_format.Goals as goal

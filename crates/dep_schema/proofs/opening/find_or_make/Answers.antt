@@ -8,7 +8,7 @@ use Rattle.dep_tables.proofs.Chains.{clean_before, stays_then, stays_ok, stays_e
 use Rattle.dep_tables.specs.Tables.{tables_of}
 use Rattle.dep_tables.specs.Versions.{IsKnownVersion, HasVersion}
 use Rattle.dep_migrations.specs.FirstTables.{GainsOurs}
-use Rattle.dep_schema.proofs.Asking.{lent_name, stays_on}
+use Rattle.dep_transactions.proofs.Asking.{lent_name, stays_on}
 use Rattle.dep_schema.proofs.Version.{empty_lacks, never_named, never_refused, not_openable, not_older, reported_as}
 use Rattle.dep_schema.proofs.Refusing.{match_err, some_is_not_none, of_found, none_found, matched_some, matched_none, lent_fails}
 use Rattle.dep_schema.proofs.opening.find_or_make.Goals as goal

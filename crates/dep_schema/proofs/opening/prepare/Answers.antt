@@ -6,10 +6,12 @@ use Rattle.sqlite.proofs.Callers.{survives_begin}
 use Rattle.sqlite.proofs.StateLemmas.{clean_if_open}
 use Rattle.dep_tables.proofs.Chains.{was_clean}
 use Rattle.dep_schema.proofs.Prepared.{AreMadeWithin, AreMissed, IsCommitted, IsUncommitted, IsGivenUp, on_err_by}
-use Rattle.dep_schema.proofs.Prepared.{prepared, crash, fell_back, left, refused, crash_missed}
-use Rattle.dep_schema.specs.OpenFaults.{open_fault_for, FailsToFindOrMake, ShowsOrMakes, begun}
+use Rattle.dep_schema.proofs.Prepared.{prepared, crash, fell_back, refused, crash_missed}
+use Rattle.dep_schema.specs.OpenFaults.{open_fault_for, FailsToFindOrMake, ShowsOrMakes}
+use Rattle.dep_transactions.specs.OpenTables.{begun}
 use Rattle.dep_migrations.proofs.Causes.{if_err_is}
-use Rattle.dep_schema.proofs.Refusing.{match_err, refuses_known, uncommitted, failed_only, clean_last}
+use Rattle.dep_schema.proofs.Refusing.{match_err, refuses_known, uncommitted}
+use Rattle.dep_transactions.proofs.Transactions.{clean_last, failed_only, left}
 use Rattle.dep_schema.proofs.Version.{never_passed, never_refused, reported_as}
 use Rattle.dep_schema.proofs.opening.prepare.Goals as goal
 

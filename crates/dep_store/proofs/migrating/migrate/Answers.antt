@@ -3,7 +3,7 @@ use Rattle.std.proofs.lemmas.Result.{on_err_weaker}
 use Rattle.sqlite.specs.Held.{state}
 use Rattle.sqlite.proofs.StateLemmas.{clean_if_open}
 use Rattle.dep_tables.proofs.Results.{if_err, ok_then}
-use Rattle.dep_files.proofs.Reported.{passed_on}
+use Rattle.dep_schema.proofs.Reported.{passed_on}
 use Rattle.dep_store.proofs.Migrated.{not_computed, was_tried, kept_back, back_behind}
 use Rattle.dep_store.proofs.migrating.migrate.Goals as goal
 

@@ -2,9 +2,9 @@ use Rattle.std.proofs.Common.{◌≡◌, ◌∙◌, IsTrue, false, refl, sym, su
 use Rattle.sqlite.specs.Held.{state}
 use Rattle.sqlite.proofs.StateLemmas.{clean_if_open}
 use Rattle.dep_tables.proofs.Chains.{was_clean}
-use Rattle.dep_schema.specs.Transactions.{IsRestored}
-use Rattle.dep_schema.proofs.Asking.{lent_connection, lent_name}
-use Rattle.dep_schema.proofs.Transacting.{back_by_rollback, none_by_rollback, works_within}
+use Rattle.dep_transactions.specs.Transactions.{IsRestored}
+use Rattle.dep_transactions.proofs.Asking.{lent_connection, lent_name}
+use Rattle.dep_transactions.proofs.Transacting.{back_by_rollback, none_by_rollback, works_within}
 use Rattle.dep_store.proofs.Carrying.{reported_then}
 use Rattle.dep_store.proofs.Tries.{is_busy, keeps_back, keeps_same, leaves_only, represents_not}
 use Rattle.dep_store.proofs.read_transaction.read_in_transaction.Goals as goal

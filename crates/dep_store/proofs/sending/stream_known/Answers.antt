@@ -6,11 +6,11 @@ use Rattle.sqlite.proofs.StateLemmas.{clean_if_open}
 use Rattle.dep_tables.specs.Tables.{Tables, tables_of}
 use Rattle.dep_tables.proofs.Results.{ok_then}
 use Rattle.dep_row_maps.specs.TablesAre.{TablesAre}
-use Rattle.dep_files.proofs.Stills.{still_left}
-use Rattle.dep_files.proofs.Streams.{streamed, IsSized}
+use Rattle.dep_schema.proofs.Stills.{still_left}
+use Rattle.dep_schema.proofs.Streams.{streamed, IsSized}
 use Rattle.dep_types.specs.State.{State}
-use Rattle.dep_schema.specs.States.{StoreRepresents}
-use Rattle.dep_schema.proofs.Transacting.{leaves_still}
+use Rattle.dep_transactions.specs.States.{StoreRepresents}
+use Rattle.dep_transactions.proofs.Transacting.{leaves_still}
 use Rattle.dep_store.proofs.Carrying.{ok_unchanged, err_kept}
 use Rattle.dep_store.proofs.ShutLemmas.{back_on_ok, fails_still, open_still, state_back, was_open_then}
 use Rattle.dep_store.proofs.Tries.{keeps_state, failed_keeping, honest_back, counts}

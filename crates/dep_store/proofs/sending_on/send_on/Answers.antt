@@ -3,7 +3,7 @@ use Rattle.std.proofs.KnownBytes.{Appends-nil}
 use Rattle.sqlite.specs.State.{HasCleanDisk}
 use Rattle.sqlite.specs.Held.{state}
 use Rattle.dep_types.specs.State.{State}
-use Rattle.dep_schema.specs.States.{StoreRepresents}
+use Rattle.dep_transactions.specs.States.{StoreRepresents}
 use Rattle.dep_staging.specs.NextBytes.{IsNextIn}
 use Rattle.dep_store.proofs.SentOn.{Comes, all_sent, keeps_open, none_taken, restored_then, stays_open, streams_on, takes_few}
 use Rattle.dep_store.proofs.Begun.{sends_not}

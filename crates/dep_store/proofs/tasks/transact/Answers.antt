@@ -4,8 +4,8 @@ use Rattle.sqlite.proofs.StateLemmas.{clean_if_open}
 use Rattle.dep_types.specs.declared.store_fault.StoreFault.{StoreFault}
 use Rattle.dep_types.specs.declared.store_fault.StoreFault.TheVariants.{Store}
 use Rattle.dep_store.specs.Tasks.{TransactsIfOpen}
-use Rattle.dep_schema.proofs.Asking.{lent_connection, lent_name}
-use Rattle.dep_schema.proofs.Transacting.{gave_up, nothing_reported, works_within, still_inside}
+use Rattle.dep_transactions.proofs.Asking.{lent_connection, lent_name}
+use Rattle.dep_transactions.proofs.Transacting.{gave_up, nothing_reported, works_within, still_inside}
 use Rattle.dep_store.proofs.Carrying.{ended_by, made_inside}
 use Rattle.dep_store.proofs.Tries.{busy_transacts, is_busy}
 use Rattle.dep_store.proofs.tasks.transact.Goals as goal

@@ -1,7 +1,7 @@
 use Rattle.std.proofs.Common.{sym, subst}
 use Rattle.sqlite.specs.Held.{state}
 use Rattle.sqlite.proofs.StateLemmas.{clean_if_open}
-use Rattle.dep_schema.proofs.Transacting.{leaves_as_was}
+use Rattle.dep_transactions.proofs.Transacting.{leaves_as_was}
 use Rattle.dep_exchange.specs.Archives.{Always, CommitsIfDue}
 use Rattle.dep_store.specs.HashingStores.{shown_with_hashes}
 use Rattle.dep_store.specs.LogCopies.{has_call}

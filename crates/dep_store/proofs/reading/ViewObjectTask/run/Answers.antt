@@ -2,7 +2,7 @@ use Rattle.std.proofs.Common.{◌≡◌}
 use Rattle.dep_types.specs.State.{State}
 use Rattle.dep_tables.specs.Tables.{tables_of}
 use Rattle.dep_bag.specs.Source.{view_at}
-use Rattle.dep_schema.specs.States.{TablesRepresent}
+use Rattle.dep_transactions.specs.States.{TablesRepresent}
 use Rattle.dep_store.proofs.Carrying.{of_each, reports}
 use Rattle.dep_store.proofs.reading.ViewObjectTask.run.Goals as goal
 

@@ -1,6 +1,6 @@
 use Rattle.sqlite.specs.Held.{state}
 use Rattle.sqlite.proofs.StateLemmas.{clean_if_open}
-use Rattle.dep_schema.proofs.Transacting.{kept_alone}
+use Rattle.dep_transactions.proofs.Transacting.{kept_alone}
 use Rattle.dep_store.proofs.Sources.{represents_still}
 use Rattle.dep_store.proofs.source.StoreBagSource.stream.Goals as goal
 

@@ -1,6 +1,6 @@
 use Rattle.sqlite.specs.Held.{state}
 use Rattle.sqlite.proofs.StateLemmas.{clean_if_open}
-use Rattle.dep_files.specs.Fixity.{IsAudited}
+use Rattle.dep_schema.specs.Fixity.{IsAudited}
 use Rattle.dep_store.specs.Shut.{StoreFailsIfShut}
 use Rattle.dep_store.specs.Staying.{ReportsTables}
 use Rattle.dep_store.proofs.Carrying.{ok_reported}
@@ -8,7 +8,7 @@ use Rattle.dep_store.proofs.Migrated.{tables_kept}
 use Rattle.dep_store.proofs.ShutLemmas.{leaves_no_more}
 use Rattle.dep_store.proofs.Cache.{forgotten}
 use Rattle.dep_tables.proofs.Results.{ok_then}
-use Rattle.dep_schema.proofs.Transacting.{left_still}
+use Rattle.dep_transactions.proofs.Transacting.{left_still}
 use Rattle.dep_store.proofs.store.Store.audit.Goals as goal
 
 pub returns : goal.returns

@@ -2,7 +2,7 @@ use Rattle.std.proofs.Common.{IsTrue, Err, refl}
 use Rattle.sqlite.specs.Held.{state}
 use Rattle.sqlite.proofs.StateLemmas.{clean_if_open}
 use Rattle.dep_types.specs.declared.store_fault.StoreFault.TheVariants.{Store}
-use Rattle.dep_schema.proofs.Transacting.{fails_back}
+use Rattle.dep_transactions.proofs.Transacting.{fails_back}
 use Rattle.dep_store.specs.Copying.{CopiesLog}
 use Rattle.dep_store.proofs.Copied.{copies, copies_open}
 use Rattle.dep_store.proofs.ShutLemmas.{fails_still}

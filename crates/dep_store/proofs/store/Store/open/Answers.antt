@@ -8,10 +8,11 @@ use Rattle.dep_tables.specs.Versions.{our_version, HasVersion}
 use Rattle.dep_store.proofs.Opened.{opened_stood, first_means, leaves_migrated, leaves_opened, is_openable, stood_back}
 use Rattle.dep_schema.proofs.Version.{not_older}
 use Rattle.dep_store.proofs.Older.{never_unknown, one_left, reports_older, known_since, back_since, had_free, not_upgraded}
-use Rattle.dep_schema.specs.OpenFaults.{begun, ShowsOrMakes}
-use Rattle.dep_schema.specs.OpenTables.{StaysFile}
+use Rattle.dep_schema.specs.OpenFaults.{ShowsOrMakes}
+use Rattle.dep_transactions.specs.OpenTables.{begun}
+use Rattle.dep_transactions.specs.OpenTables.{StaysFile}
 use Rattle.dep_migrations.specs.FirstTables.{new_store_tables}
-use Rattle.dep_files.proofs.Reported.{passed_on}
+use Rattle.dep_schema.proofs.Reported.{passed_on}
 use Rattle.dep_store.proofs.store.Store.open.Goals as goal
 
 pub returns-then-version-eq2 : goal.returns-then-version-eq2

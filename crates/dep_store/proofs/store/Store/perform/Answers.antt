@@ -16,8 +16,8 @@ use Rattle.dep_types.specs.declared.store_fault.StoreFault.TheVariants.{Store}
 use Rattle.dep_store.specs.Caching.{IsOfSize}
 use Rattle.std.proofs.lemmas.Result.{IfOk-from_err}
 use Rattle.dep_requests.specs.declared.performing.Done.{Done}
-use Rattle.dep_schema.specs.Transactions.{OverStates, Transacts, IsGivenBack}
-use Rattle.dep_schema.proofs.Transacting.{fails_back, stood_before, unmoved}
+use Rattle.dep_transactions.specs.Transactions.{OverStates, Transacts, IsGivenBack}
+use Rattle.dep_transactions.proofs.Transacting.{fails_back, stood_before, unmoved}
 use Rattle.dep_requests.specs.declared.caching.Cache.{Cache}
 use Rattle.dep_requests.proofs.CacheLemmas.{known_still}
 use Rattle.dep_store.proofs.Cache.{forgotten, service_made}

@@ -1,6 +1,6 @@
 use Rattle.sqlite.specs.Held.{state}
 use Rattle.sqlite.proofs.StateLemmas.{clean_if_open}
-use Rattle.dep_schema.proofs.Transacting.{leaves_as_was}
+use Rattle.dep_transactions.proofs.Transacting.{leaves_as_was}
 use Rattle.dep_store.proofs.store.Store.settled.Goals as goal
 
 pub returns-clause-left : goal.returns-clause-left

@@ -1,7 +1,7 @@
 use Rattle.std.proofs.Common.{IsTrue}
 use Rattle.std.proofs.lemmas.Result.{err_from_is_err_and}
 use Rattle.sqlite.specs.Held.{state}
-use Rattle.dep_schema.proofs.Transacting.{stood_before}
+use Rattle.dep_transactions.proofs.Transacting.{stood_before}
 use Rattle.dep_requests.proofs.CacheLemmas.{none_is}
 use Rattle.dep_store.proofs.Cache.{forgotten}
 use Rattle.dep_store.proofs.Tries.{busy_sends, is_busy, is_settled}

@@ -4,8 +4,8 @@ use Rattle.sqlite.proofs.StateLemmas.{clean_if_open}
 use Rattle.dep_types.specs.Limits.{greatest_moment}
 use Rattle.dep_types.specs.declared.store_fault.StoreFault.{StoreFault}
 use Rattle.dep_types.specs.declared.store_fault.StoreFault.TheVariants.{Store}
-use Rattle.dep_schema.specs.Transactions.{Transacts}
-use Rattle.dep_schema.proofs.Transacting.{unmoved, after_back, fails_back}
+use Rattle.dep_transactions.specs.Transactions.{Transacts}
+use Rattle.dep_transactions.proofs.Transacting.{unmoved, after_back, fails_back}
 use Rattle.dep_store.specs.Shut.{StoreFailsIfShut}
 use Rattle.dep_requests.proofs.CacheLemmas.{none_is}
 use Rattle.dep_store.proofs.Cache.{clock_made, forgotten, may_cache}

@@ -4,7 +4,7 @@ use Rattle.sqlite.proofs.StateLemmas.{clean_if_open}
 use Rattle.dep_types.specs.State.{State}
 use Rattle.dep_types.specs.declared.rows.ObjectView.{ObjectView}
 use Rattle.dep_bag.specs.Source.{view_at}
-use Rattle.dep_schema.proofs.Transacting.{still_reports}
+use Rattle.dep_transactions.proofs.Transacting.{still_reports}
 use Rattle.dep_store.proofs.Tries.{reports_over}
 use Rattle.dep_store.proofs.Cache.{forgotten}
 use Rattle.dep_store.proofs.store.Store.view.Goals as goal

@@ -1,0 +1,5 @@
+pub mod Asking
+pub mod Transactions
+pub mod Transacting
+pub mod Upgraded
+mod Performed

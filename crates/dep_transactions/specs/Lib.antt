@@ -1,0 +1,5 @@
+pub mod OpenTables
+pub mod States
+pub mod Transactions
+pub mod Upgrading
+pub mod Performing
