@@ -1,8 +1,7 @@
 //! Requests for resources.
 
-use dep_fields::SwordFields;
+use dep_fields::{IfMatch, SwordFields};
 use dep_fixity::HashedOctets;
-use dep_tags::IfMatch;
 use dep_types::Target;
 
 /// A request for a resource and a method that it has.

@@ -13,7 +13,7 @@ use Rattle.dep_message.specs.Places.{Place, Open, Shut, HasBytes}
 use Rattle.dep_message.specs.Heads.{is_head_only, closes}
 use Rattle.dep_message.specs.Stream.{Item, Fault, Continue, Request, Waits}
 use Rattle.dep_fields.specs.Reported.{fields_of}
-use Rattle.dep_tags.specs.Tags.{if_match_of}
+use Rattle.dep_fields.specs.Tags.{if_match_of}
 use Rattle.dep_decisions.specs.declared.operation.Operation.{Operation}
 use Rattle.dep_answers.specs.Steps.{Stepped, sent_by, refused_step, operation_step}
 use Rattle.dep_exchange.specs.declared.arrived.Arrived.{Arrived}

@@ -19,11 +19,10 @@ use crate::sending::{Answered, send};
 use crate::site::{Context, Site};
 use dep_answers::{Delivery, Performed, refused};
 use dep_decisions::Operation;
-use dep_fields::SwordFields;
+use dep_fields::{IfMatch, SwordFields};
 use dep_message::{Message, is_without_body};
 use dep_moment::Moment;
 use dep_router::Routed;
-use dep_tags::IfMatch;
 use dep_types::{Outlet, Refusal, StoreFault, Target};
 use std::alloc::{AllocError, Global};
 

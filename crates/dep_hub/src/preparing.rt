@@ -6,11 +6,10 @@ use crate::connections::Connection;
 use crate::rest::Behind;
 use dep_decisions::Operation;
 use dep_exchange::{Archive, Site};
-use dep_fields::SwordFields;
+use dep_fields::{IfMatch, SwordFields};
 use dep_head::Head;
 use dep_message::{Message, Preview, closes};
 use dep_router::Routed;
-use dep_tags::IfMatch;
 use dep_types::Target;
 use std::alloc::AllocError;
 

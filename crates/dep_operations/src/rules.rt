@@ -10,9 +10,8 @@ ghost use Rattle.dep_operations.specs.Seen.{in_view, row_length, tag_seen};
 use crate::references::state_rule;
 use crate::view::{UploadState, UploadView, View};
 use dep_decisions::{Operation, Purpose};
-use dep_fields::{Field, Opening};
+use dep_fields::{Field, IfMatch, Opening};
 use dep_fixity::HashedOctets;
-use dep_tags::IfMatch;
 use dep_types::{Config, Refusal, Resource, UploadRow};
 
 /// Rule 5: On-Behalf-Of.

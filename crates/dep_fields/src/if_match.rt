@@ -2,7 +2,7 @@
 ghost use Rattle.std.specs.Prelude.{◌≡◌, bytes_eq, decimal};
 ghost use Rattle.std.specs.List.{list_any};
 ghost use Rattle.dep_octets.specs.Octets.{members};
-ghost use Rattle.dep_tags.specs.Tags.{holds, if_match_of, in_quotation_marks, is_met};
+ghost use Rattle.dep_fields.specs.Tags.{holds, if_match_of, in_quotation_marks, is_met};
 
 use dep_head::{Head, Values};
 use dep_octets::split_list;
@@ -18,7 +18,7 @@ pub struct IfMatch<'a> {
 
 impl<'a> Model for IfMatch<'a> {
     ghost use Rattle.std.specs.Prelude.{ℕ, List};
-    ghost use Rattle.dep_tags.specs.Tags.{tags_of};
+    ghost use Rattle.dep_fields.specs.Tags.{tags_of};
 
     ghost Value = { List (List ℕ) };
 

@@ -1,6 +1,6 @@
 use Rattle.std.proofs.Common.{◌∙◌, ◌==◌, sym, bytes_eq}
-use Rattle.dep_tags.proofs.TagLemmas.{quotes, unquoted, quoted}
-use Rattle.dep_tags.proofs.if_match.is_quoted.Goals as goal
+use Rattle.dep_fields.proofs.TagLemmas.{quotes, unquoted, quoted}
+use Rattle.dep_fields.proofs.if_match.is_quoted.Goals as goal
 
 pub returns-then-last-ne34 : goal.returns-then-last-ne34
 returns-then-last-ne34 c =

@@ -2,9 +2,9 @@ use Rattle.std.proofs.Common.{◌∙◌, sym, ap, codes}
 use Rattle.std.specs.List.{list_any}
 use Rattle.dep_octets.specs.Octets.{members}
 use Rattle.dep_head.specs.Head.{values_of}
-use Rattle.dep_tags.specs.Tags.{holds, is_met}
-use Rattle.dep_tags.proofs.TagLemmas.{some_joined}
-use Rattle.dep_tags.proofs.if_match.IfMatch.holds.Goals as goal
+use Rattle.dep_fields.specs.Tags.{holds, is_met}
+use Rattle.dep_fields.proofs.TagLemmas.{some_joined}
+use Rattle.dep_fields.proofs.if_match.IfMatch.holds.Goals as goal
 
 pub returns : goal.returns
 returns c =

@@ -4,7 +4,7 @@ use Rattle.std.specs.List.{join_with_byte, list_any, onto_first}
 use Rattle.std.proofs.lemmas.Bool.{cases_Bool}
 use Rattle.std.proofs.lemmas.List.Splits.{slice_split-cons_yes, slice_split-cons_no, length-slice_split}
 use Rattle.dep_octets.specs.Octets.{members, members_of, parts, trimmed}
-use Rattle.dep_tags.specs.Tags.{in_quotation_marks}
+use Rattle.dep_fields.specs.Tags.{in_quotation_marks}
 
 and_false : (p : Bool) → (p && false) ≡ false
 and_false true = refl
