@@ -8,7 +8,7 @@ use Rattle.std.proofs.lemmas.Grind.{flat_map-append}
 use Rattle.sqlite.specs.declared.types.Value.TheVariants.{Int}
 use Rattle.sqlite.specs.Order.{Row}
 use Rattle.sqlite_trees.specs.Tree.{rowid}
-use Rattle.dep_statements.specs.Rows.{is_after, IsOrdered}
+use Rattle.dep_tables.specs.Rowids.{is_after, IsOrdered}
 use Rattle.dep_tables.specs.Tables.{Tables}
 use Rattle.dep_tables.specs.Edits.{IsObjectAfter}
 use Rattle.sqlite.specs.State.{State}

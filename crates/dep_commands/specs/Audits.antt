@@ -3,7 +3,7 @@ use Rattle.std.specs.Prelude.{◌≡◌, ◌⊎◌, ℕ, zero, suc, pos, List, [
 use Rattle.sqlite.specs.declared.types.Value.TheVariants.{Int}
 use Rattle.sqlite.specs.Order.{Row}
 use Rattle.sqlite_trees.specs.Tree.{rowid}
-use Rattle.dep_statements.specs.Rows.{is_after}
+use Rattle.dep_tables.specs.Rowids.{is_after}
 use Rattle.dep_tables.specs.Tables.{Tables}
 use Rattle.dep_types.specs.Sinks.{IsPrefix}
 use Rattle.dep_schema.specs.declared.auditing.Audit.{Audit}

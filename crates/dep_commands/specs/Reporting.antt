@@ -3,7 +3,7 @@ use Rattle.std.specs.Prelude.{◌≡◌, ◌≢◌, ◌⊎◌, ℕ, ◌≤◌, �
 use Rattle.std.specs.Io.KnownBytes.{Appends}
 use Rattle.sqlite.specs.State as db
 use Rattle.sqlite.specs.Order.{Row}
-use Rattle.dep_statements.specs.Rows.{is_after}
+use Rattle.dep_tables.specs.Rowids.{is_after}
 use Rattle.dep_tables.specs.Tables.{Tables}
 use Rattle.dep_types.specs.Sinks.{IsPrefix}
 use Rattle.dep_transactions.specs.OpenTables.{StaysFile}

@@ -8,7 +8,7 @@ use Rattle.sha2.specs.Sha512.{sha512}
 use Rattle.dep_types.specs.State.{State, Object, File, file_at}
 use Rattle.dep_types.specs.Rows.{file_row}
 use Rattle.dep_types.specs.declared.rows.FileRow.{FileRow}
-use Rattle.dep_statements.specs.Rows.{IsOrdered, row_at}
+use Rattle.dep_tables.specs.Rowids.{IsOrdered, row_at}
 use Rattle.dep_tables.specs.Edits.{LacksFileRow, with_new_file_row, with_new_sha512, without_blocks_of, without_file_rows, without_sha512}
 use Rattle.dep_tables.specs.Rows.{is_block_of, is_sha512_of}
 use Rattle.dep_tables.specs.Tables.{Tables}

@@ -2,7 +2,7 @@
 use Rattle.std.proofs.Common.{◌≡◌, ℕ, ◌+◌, ◌<◌, List, [], ◌∷◌, ◌++◌, length, get_or, take, sym, ap, ◌∙◌, arith}
 use Rattle.std.proofs.lemmas.List.{take_more, length-take-le}
 use Rattle.sqlite_value.specs.Order.{Row}
-use Rattle.dep_statements.specs.Rows.{put_next}
+use Rattle.dep_tables.specs.Rowids.{put_next}
 use Rattle.dep_tables.specs.Rows.{block_values}
 use Rattle.dep_tables.specs.Tables.{Tables}
 use Rattle.dep_tables.specs.declared.owner.BlockOwner.{BlockOwner}

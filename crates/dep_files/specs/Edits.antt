@@ -6,7 +6,7 @@ use Rattle.sqlite_trees.specs.Tree.{put_row}
 use Rattle.dep_types.specs.State.{State, Object, File}
 use Rattle.dep_types.specs.Rows.{file_row}
 use Rattle.dep_types.specs.declared.rows.FileRow.{FileRow}
-use Rattle.dep_statements.specs.Rows.{put_next}
+use Rattle.dep_tables.specs.Rowids.{put_next}
 use Rattle.dep_tables.specs.Rows.{sha512_values, stored_file}
 use Rattle.dep_tables.specs.Tables.{Tables}
 use Rattle.dep_tables.specs.declared.owner.BlockOwner.TheVariants as owner

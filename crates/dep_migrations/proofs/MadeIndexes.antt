@@ -22,8 +22,8 @@ use Rattle.sqlite_resolve.specs.Body.{table_at}
 use Rattle.sqlite_resolve.specs.Define as define
 use Rattle.sqlite_resolve.specs.Compile.{compiled, first, with_command, planned, meaning, command, returning, timed, target, is_reserved, create_index, creates, index_in, index_defined_by}
 use Rattle.sqlite_catalog.specs.Change.{is_used}
-use Rattle.dep_statements.proofs.Adding.{understood_of}
-use Rattle.dep_statements.proofs.Indexed.{indexes, indexed_keeps}
+use Rattle.dep_tables.proofs.Adding.{understood_of}
+use Rattle.dep_tables.proofs.Indexed.{indexes, indexed_keeps}
 use Rattle.dep_tables.specs.Schema.{files_table, files_index, uploads_table, uploads_index}
 use Rattle.dep_migrations.specs.Beside.{AddsIndex}
 use Rattle.dep_migrations.specs.Texts.{index_files_text, index_uploads_text}

@@ -19,8 +19,8 @@ use Rattle.sqlite_resolve.specs.declared.compiled.Compiled.{Compiled}
 use Rattle.sqlite_syntax.specs.declared.statement.Parsed.{Parsed}
 use Rattle.sqlite_resolve.specs.Lowering.{Checked, and_then}
 use Rattle.sqlite_resolve.specs.Compile.{compiled, first, is_attached, with_command, table_defined_by}
-use Rattle.dep_statements.specs.Adding.{Adds, AddsAll}
-use Rattle.dep_statements.proofs.Adding.{IsMaking, adds, adds_append}
+use Rattle.dep_tables.specs.Adding.{Adds, AddsAll}
+use Rattle.dep_tables.proofs.Adding.{IsMaking, adds, adds_append}
 use Rattle.dep_tables.proofs.Chains.{Stays, clean_before, stays_put, stays_then, stays_ok}
 use Rattle.dep_tables.specs.Clauses.{StaysWithin, FailsToRun}
 use Rattle.dep_types.specs.declared.store_fault.StoreFault.{StoreFault}

@@ -8,9 +8,9 @@ use Rattle.sqlite.specs.Effect.{Database, IsDatabase}
 use Rattle.sqlite_schema.specs.Names.{table_named, same_name}
 use Rattle.sqlite_catalog.specs.Change.{created, indexed, next_tree, is_used, KeepsRows}
 use Rattle.sqlite_catalog.proofs.StepLemmas.{no_table}
-use Rattle.dep_statements.specs.Adding.{AreFreeFor, created_all}
-use Rattle.dep_statements.specs.Indexes.{Indexes}
-use Rattle.dep_statements.proofs.Adding.{placed_after, got_after, next_created}
+use Rattle.dep_tables.specs.Adding.{AreFreeFor, created_all}
+use Rattle.dep_tables.specs.Indexes.{Indexes}
+use Rattle.dep_tables.proofs.Adding.{placed_after, got_after, next_created}
 use Rattle.dep_tables.specs.Schema.{our_tables, format_table, state_table, objects_table, metadata_table, files_table, uploads_table, segments_table, timed_out_table, blocks_table, files_index, uploads_index}
 use Rattle.dep_migrations.specs.Beside.{with_tables, with_files_index, with_ours, AddsIndexes}
 

@@ -14,9 +14,9 @@ use Rattle.sqlite.specs.Tree.{Trees}
 use Rattle.sqlite.specs.Held.{state}
 use Rattle.sqlite_catalog.specs.Listing.{IsSound}
 use Rattle.sqlite_catalog.specs.Change.{created, next_tree, KeepsRows}
-use Rattle.dep_statements.specs.Rows.{AreOrdered, IsOrdered, put_next}
-use Rattle.dep_statements.specs.Adding.{HasCounters, AreFreeFor, Adds}
-use Rattle.dep_statements.proofs.Adding.{all_front}
+use Rattle.dep_tables.specs.Rowids.{AreOrdered, IsOrdered, put_next}
+use Rattle.dep_tables.specs.Adding.{HasCounters, AreFreeFor, Adds}
+use Rattle.dep_tables.proofs.Adding.{all_front}
 use Rattle.dep_tables.specs.Schema.{our_schema, our_tables, older_schema, sha512s_table, files_index, uploads_index}
 use Rattle.dep_tables.specs.Rows.{sha512_values}
 use Rattle.dep_tables.specs.Texts.{insert_sha512_text}

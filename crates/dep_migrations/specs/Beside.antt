@@ -6,8 +6,8 @@ use Rattle.sqlite.specs.Effect.{Database}
 use Rattle.sqlite_schema.specs.declared.schema.Index.{Index}
 use Rattle.sqlite_schema.specs.Names.{table_named, view_named}
 use Rattle.sqlite_catalog.specs.Change.{next_tree, indexed, is_used}
-use Rattle.dep_statements.specs.Adding.{AreFreeFor, created_all}
-use Rattle.dep_statements.specs.Indexes.{Indexes}
+use Rattle.dep_tables.specs.Adding.{AreFreeFor, created_all}
+use Rattle.dep_tables.specs.Indexes.{Indexes}
 use Rattle.dep_tables.specs.Schema.{our_tables, sha512s_table, files_table, files_index, uploads_table, uploads_index}
 
 -- no table and no view is named `format`

@@ -3,7 +3,7 @@ use Rattle.std.specs.Prelude.{ℕ, ◌⊎◌, List, Ok, ◌<◌, [], length, tak
 use Rattle.dep_migrations.specs.Beside.{AreFree, AddsIndexes}
 use Rattle.dep_migrations.specs.Causes.{FailsSince}
 use Rattle.dep_migrations.specs.Texts.{add_format_text, add_state_text, index_files_text, index_uploads_text, create_texts}
-use Rattle.dep_statements.specs.Adding.{AddsAll}
+use Rattle.dep_tables.specs.Adding.{AddsAll}
 use Rattle.dep_tables.specs.Clauses.{FailsToRun, CommitsNothing}
 use Rattle.dep_tables.specs.Schema.{our_tables}
 use Rattle.dep_types.specs.declared.store_fault.StoreFault.{StoreFault}

@@ -1,7 +1,7 @@
 -- The tables of a new store, alone and beside those of others.
 use Rattle.std.specs.Prelude.{◌≡◌, [], ◌∷◌}
 use Rattle.dep_migrations.specs.Beside.{AreFree, with_ours}
-use Rattle.dep_statements.specs.Adding.{HasCounters}
+use Rattle.dep_tables.specs.Adding.{HasCounters}
 use Rattle.dep_tables.specs.Rows.{stored_format}
 use Rattle.dep_tables.specs.Schema.{our_schema}
 use Rattle.dep_tables.specs.Tables.{Tables, tables_of, IsOf, tables_from}

@@ -2,7 +2,7 @@
 use Rattle.std.specs.Prelude.{◌≡◌, IsTrue, Result, OnOk}
 use Rattle.dep_migrations.specs.Beside.{AreFree, with_ours}
 use Rattle.dep_migrations.specs.FirstTables.{no_schema, SeesTables, first_state, new_store_tables}
-use Rattle.dep_statements.specs.Adding.{Puts}
+use Rattle.dep_tables.specs.Adding.{Puts}
 use Rattle.dep_tables.specs.Rows.{stored_format, stored_state}
 use Rattle.dep_tables.specs.Schema.{format_table}
 use Rattle.dep_tables.specs.Versions.{our_version}

@@ -6,7 +6,7 @@ use Rattle.dep_migrations.specs.Faults.{FailsToIndex}
 use Rattle.dep_migrations.specs.Texts.{create_sha512s_text}
 use Rattle.dep_row_maps.specs.Owned.{put_each}
 use Rattle.dep_row_maps.specs.Sha512s.{value_rows}
-use Rattle.dep_statements.specs.Adding.{Adds}
+use Rattle.dep_tables.specs.Adding.{Adds}
 use Rattle.dep_tables.specs.Clauses.{FailsToRun, CommitsNothing}
 use Rattle.dep_tables.specs.Rows.{sha512_values}
 use Rattle.dep_tables.specs.Schema.{sha512s_table}

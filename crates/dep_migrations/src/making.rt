@@ -1,6 +1,6 @@
 //! The tables of a new store, and their first rows, beside what is there.
 
-ghost use Rattle.dep_statements.specs.Adding.{AddsAll};
+ghost use Rattle.dep_tables.specs.Adding.{AddsAll};
 ghost use Rattle.dep_tables.specs.Schema.{our_tables};
 ghost use Rattle.dep_migrations.specs.Faults.{FailsToCreate, FailsToAddRows, FailsToMake};
 ghost use Rattle.dep_migrations.specs.Running.{TurnsDatabase, WorksWithin};

@@ -12,7 +12,7 @@ use Rattle.dep_types.specs.State.{State, Object, File, Texts}
 use Rattle.dep_types.specs.Sound.{IsSound}
 use Rattle.dep_types.specs.Rows.{object_row}
 use Rattle.dep_types.specs.declared.rows.ObjectRow.{ObjectRow}
-use Rattle.dep_statements.specs.Rows.{IsOrdered, row_at, replaced, has_number}
+use Rattle.dep_tables.specs.Rowids.{IsOrdered, row_at, replaced, has_number}
 use Rattle.dep_tables.specs.Edits.{LacksObjectRow, with_new_object_row, with_object_row}
 use Rattle.dep_tables.specs.Rows.{stored_object}
 use Rattle.dep_tables.specs.Tables.{Tables}

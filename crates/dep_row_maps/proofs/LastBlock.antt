@@ -12,8 +12,8 @@ use Rattle.sqlite_value.specs.Order.{Row, column, value_cmp}
 use Rattle.sqlite_rules.specs.Lists.{Has}
 use Rattle.sqlite_trees.proofs.ListLemmas.{IsPermutation-filter}
 use Rattle.dep_types.specs.Maps.{Numbered}
-use Rattle.dep_statements.specs.Rows.{has_number, IsFirst}
-use Rattle.dep_statements.proofs.Members.{permuted_from}
+use Rattle.dep_tables.specs.Rowids.{has_number, IsFirst}
+use Rattle.dep_tables.proofs.Members.{permuted_from}
 use Rattle.dep_tables.specs.Rows.{by_falling_place, is_block_of, is_part_of, shown_block, shown_number}
 use Rattle.dep_tables.specs.declared.owner.BlockOwner.{BlockOwner}
 use Rattle.dep_tables.proofs.BlocksTable.{falling_total}

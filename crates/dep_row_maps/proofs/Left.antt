@@ -14,8 +14,8 @@ use Rattle.sqlite_value.proofs.OrderLemmas.{value_cmp-Int}
 use Rattle.sqlite_rules.specs.Lists.{Has}
 use Rattle.sqlite_rules.proofs.ListLemmas.{has_filtered, has_kept}
 use Rattle.dep_types.specs.State.{Upload}
-use Rattle.dep_statements.specs.Rows.{is_below_number}
-use Rattle.dep_statements.proofs.Members.{has_mapped, mapped_from, permuted_from}
+use Rattle.dep_tables.specs.Rowids.{is_below_number}
+use Rattle.dep_tables.proofs.Members.{has_mapped, mapped_from, permuted_from}
 use Rattle.dep_tables.specs.Rows.{left_values, shown_left}
 use Rattle.dep_tables.specs.Edits.{IsLeftBefore}
 use Rattle.dep_tables.specs.declared.uploads.LeftUpload.{LeftUpload}

@@ -10,8 +10,8 @@ use Rattle.sqlite_trees.specs.Tree.{rowid, put_row, IsTable}
 use Rattle.sqlite_trees.specs.View.{is_int}
 use Rattle.sqlite_rules.specs.Edit.{id_in, next_rowid}
 use Rattle.sqlite_rules.proofs.TableLemmas.{int_is}
-use Rattle.dep_statements.specs.Rows.{IsOrdered}
-use Rattle.dep_statements.specs.Rows.{put_next}
+use Rattle.dep_tables.specs.Rowids.{IsOrdered}
+use Rattle.dep_tables.specs.Rowids.{put_next}
 
 abbrev next : ℤ → List Row → ℤ
 next = fold (λ _ r. id_in (rowid r) +ℤ pos 1)

@@ -14,8 +14,8 @@ use Rattle.sqlite_value.proofs.OrderLemmas.{value_cmp-Int}
 use Rattle.dep_types.proofs.Kept.{entries-kept, remove-kept}
 use Rattle.std.specs.Ordering.{is_gt}
 use Rattle.std.specs.Prelude.{find, option_map, nat_lt, Some}
-use Rattle.dep_statements.specs.Rows.{IsOrdered, row_at, is_after, replaced}
-use Rattle.dep_statements.proofs.Looking.{replaced_is_put}
+use Rattle.dep_tables.specs.Rowids.{IsOrdered, row_at, is_after, replaced}
+use Rattle.dep_tables.proofs.Looking.{replaced_is_put}
 use Rattle.dep_row_maps.specs.Keyed.{Keyed, rows_of, next_entry}
 
 reversed : (a b : ℕ) → nat_cmp a b ≡ ordering_reverse (nat_cmp b a)

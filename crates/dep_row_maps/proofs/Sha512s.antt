@@ -12,8 +12,8 @@ use Rattle.sqlite_trees.proofs.TreeLemmas.{IsShaped-filter}
 use Rattle.sqlite_trees.specs.declared.store.Shape.TheVariants as shape
 use Rattle.dep_types.specs.Maps.{Numbered}
 use Rattle.dep_types.specs.State.{State, Object, File, Upload}
-use Rattle.dep_statements.specs.Rows.{IsOrdered, put_next}
-use Rattle.dep_statements.proofs.Sorted.{short_permutation}
+use Rattle.dep_tables.specs.Rowids.{IsOrdered, put_next}
+use Rattle.dep_tables.proofs.Sorted.{short_permutation}
 use Rattle.dep_tables.specs.Rows.{sha512_values, is_sha512_of, value_in}
 use Rattle.dep_tables.specs.Tables.{Tables}
 use Rattle.dep_tables.specs.Versions.{our_version}

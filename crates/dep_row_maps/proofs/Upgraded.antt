@@ -22,8 +22,8 @@ use Rattle.sqlite_rules.specs.Edit.{next_rowid}
 use Rattle.dep_types.specs.Maps.{Numbered}
 use Rattle.dep_types.specs.Sound.{IsSound}
 use Rattle.dep_types.specs.State.{State, Object, File, Upload}
-use Rattle.dep_statements.specs.Rows.{IsOrdered, put_next, is_after, replaced}
-use Rattle.dep_statements.proofs.Keys.{found_row}
+use Rattle.dep_tables.specs.Rowids.{IsOrdered, put_next, is_after, replaced}
+use Rattle.dep_tables.proofs.Keys.{found_row}
 use Rattle.dep_tables.specs.Rows.{stored_format, sha512_values, is_sha512_of}
 use Rattle.dep_tables.specs.Versions.{our_version, older_version}
 use Rattle.dep_tables.specs.declared.owner.BlockOwner.{BlockOwner}

@@ -13,7 +13,7 @@ use Rattle.dep_types.specs.Rows.{object_row, file_row, upload_row}
 use Rattle.dep_types.specs.Uploads.{assembled}
 use Rattle.dep_types.specs.declared.rows.ObjectRow.{ObjectRow}
 use Rattle.dep_types.specs.declared.rows.FileRow.{FileRow}
-use Rattle.dep_statements.specs.Rows.{IsOrdered, row_at, is_after}
+use Rattle.dep_tables.specs.Rowids.{IsOrdered, row_at, is_after}
 use Rattle.dep_tables.specs.Tables.{Tables}
 use Rattle.dep_tables.specs.Edits.{HasStateRow, IsObjectRowAt, IsObjectAfter, AreMetadataRowsOf, IsFileRowAt, AreFileRowsOf, IsUploadRowAt, AreSegmentRowsOf, AreBytesAt, IsSha512Of}
 use Rattle.dep_tables.specs.declared.uploads.UploadColumns.{UploadColumns}

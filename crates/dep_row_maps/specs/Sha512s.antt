@@ -9,7 +9,7 @@ use Rattle.sqlite_trees.specs.Tree.{rowid}
 use Rattle.dep_types.specs.Maps.{Numbered}
 use Rattle.dep_types.specs.Sound.{IsSound}
 use Rattle.dep_types.specs.State.{State, Object, File}
-use Rattle.dep_statements.specs.Rows.{IsOrdered, replaced, is_after}
+use Rattle.dep_tables.specs.Rowids.{IsOrdered, replaced, is_after}
 use Rattle.dep_tables.specs.Rows.{stored_format, sha512_values}
 use Rattle.dep_tables.specs.Tables.{Tables}
 use Rattle.dep_tables.specs.Versions.{our_version}

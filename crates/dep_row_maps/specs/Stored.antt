@@ -6,7 +6,7 @@ use Rattle.sqlite_value.specs.Order.{Row, column, bytes}
 use Rattle.dep_types.specs.Maps.{Numbered}
 use Rattle.dep_types.specs.State.{State, Object, File, Upload, Texts}
 use Rattle.dep_types.specs.Rows.{object_row, file_row, upload_row}
-use Rattle.dep_statements.specs.Rows.{has_number, put_next}
+use Rattle.dep_tables.specs.Rowids.{has_number, put_next}
 use Rattle.dep_tables.specs.Rows.{stored_state, stored_object, stored_file, stored_upload, columns_of_upload, metadata_values, segment_values, block_values, value_in}
 use Rattle.dep_tables.specs.declared.owner.BlockOwner.TheVariants as owner
 use Rattle.dep_tables.specs.declared.state.StateRow.{StateRow}

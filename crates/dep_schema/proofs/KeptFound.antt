@@ -8,9 +8,9 @@ use Rattle.sqlite.specs.Order.{Row, column}
 use Rattle.sqlite.specs.State.{State, Shown}
 use Rattle.sqlite.specs.declared.types.Value.{Value}
 use Rattle.sqlite.specs.declared.types.Value.TheVariants.{Int, Blob}
-use Rattle.dep_statements.specs.Rows.{has_number}
-use Rattle.dep_statements.proofs.Selected.{selects_all, selects_in_order}
-use Rattle.dep_statements.proofs.Tests.{passes_key}
+use Rattle.dep_tables.specs.Rowids.{has_number}
+use Rattle.dep_tables.proofs.Selected.{selects_all, selects_in_order}
+use Rattle.dep_tables.proofs.Tests.{passes_key}
 use Rattle.dep_tables.specs.Rows.{is_sha512_of, owner_values, value_in}
 use Rattle.dep_tables.specs.Schema.{our_schema}
 use Rattle.dep_tables.specs.Tables.{tables_of, IsOurs}

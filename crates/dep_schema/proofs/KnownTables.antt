@@ -13,11 +13,11 @@ use Rattle.sqlite.proofs.Callers.{IsPlain}
 use Rattle.sqlite_trees.specs.Tree.{rowid}
 use Rattle.sqlite_value.specs.Order.{value_cmp}
 use Rattle.sqlite_value.proofs.OrderLemmas.{then-Equal}
-use Rattle.dep_statements.specs.Query.{no_limit, exceeds}
-use Rattle.dep_statements.specs.Rows.{InOrder, IsOrdered, columns_from, is_after}
-use Rattle.dep_statements.proofs.Answered.{by_rowid}
-use Rattle.dep_statements.proofs.Tests.{passes_after}
-use Rattle.dep_statements.proofs.Selected.{Asks, first_only, selects_sorted, selects_next}
+use Rattle.dep_tables.specs.Query.{no_limit, exceeds}
+use Rattle.dep_tables.specs.Rowids.{InOrder, IsOrdered, columns_from, is_after}
+use Rattle.dep_tables.proofs.Picked.{by_rowid}
+use Rattle.dep_tables.proofs.Tests.{passes_after}
+use Rattle.dep_tables.proofs.Selected.{Asks, first_only, selects_sorted, selects_next}
 use Rattle.dep_tables.specs.Schema.{our_schema, older_schema}
 use Rattle.dep_tables.specs.Texts.{blocks_of_text}
 use Rattle.dep_tables.specs.declared.owner.BlockOwner.{BlockOwner}

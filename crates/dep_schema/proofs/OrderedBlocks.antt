@@ -8,9 +8,9 @@ use Rattle.sqlite.specs.Listing.{understood}
 use Rattle.sqlite.specs.State.{State, Begins}
 use Rattle.sqlite_value.specs.Order.{value_cmp}
 use Rattle.sqlite_value.proofs.OrderLemmas.{then-Equal}
-use Rattle.dep_statements.specs.Query.{no_limit}
-use Rattle.dep_statements.specs.Rows.{InOrder}
-use Rattle.dep_statements.proofs.Selected.{Asks, begins_sorted}
+use Rattle.dep_tables.specs.Query.{no_limit}
+use Rattle.dep_tables.specs.Rowids.{InOrder}
+use Rattle.dep_tables.proofs.Selected.{Asks, begins_sorted}
 use Rattle.dep_tables.specs.Schema.{our_schema}
 use Rattle.dep_tables.specs.Texts.{blocks_of_text}
 use Rattle.dep_tables.specs.declared.owner.BlockOwner.{BlockOwner}

@@ -29,7 +29,7 @@ use Rattle.dep_tables.specs.Schema.{our_schema, older_schema}
 use Rattle.dep_tables.specs.Tables.{tables_of, IsOf, IsKnownSchema, IsKnown}
 use Rattle.dep_tables.specs.Versions.{IsKnownVersion, HasVersion}
 use Rattle.dep_tables.proofs.Results.{if_ok}
-use Rattle.dep_statements.proofs.Asked.{asks_on}
+use Rattle.dep_tables.proofs.Asked.{asks_on}
 use Rattle.dep_migrations.specs.Beside.{LacksFormat}
 use Rattle.dep_schema.specs.Openable.{HasKnownVersion}
 use Rattle.dep_schema.specs.Texts.{find_format_text}

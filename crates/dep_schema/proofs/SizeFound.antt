@@ -8,10 +8,10 @@ use Rattle.sqlite.specs.Term.{Term, col}
 use Rattle.sqlite.specs.State.{State, Shown}
 use Rattle.sqlite.specs.declared.types.Value.TheVariants.{Int}
 use Rattle.sqlite_value.specs.Order.{Row}
-use Rattle.dep_statements.specs.Query.{equals, no_limit}
-use Rattle.dep_statements.specs.Rows.{row_at, columns_from}
-use Rattle.dep_statements.proofs.Tests.{passes_key}
-use Rattle.dep_statements.proofs.Selected.{Asks, selects_keyed}
+use Rattle.dep_tables.specs.Query.{equals, no_limit}
+use Rattle.dep_tables.specs.Rowids.{row_at, columns_from}
+use Rattle.dep_tables.proofs.Tests.{passes_key}
+use Rattle.dep_tables.proofs.Selected.{Asks, selects_keyed}
 use Rattle.dep_tables.specs.Schema.{our_schema}
 use Rattle.dep_tables.specs.Tables.{tables_of, IsOurs}
 use Rattle.dep_tables.proofs.Leading.{files_at}

@@ -9,7 +9,7 @@ use Rattle.sqlite.specs.declared.types.Value.TheVariants.{Int}
 use Rattle.sqlite_value.specs.Order.{Row, column, value_cmp}
 use Rattle.dep_types.specs.Maps.{Numbered}
 use Rattle.dep_types.specs.State.{State, File, file_at}
-use Rattle.dep_statements.specs.Rows.{IsOrdered, row_at}
+use Rattle.dep_tables.specs.Rowids.{IsOrdered, row_at}
 use Rattle.dep_tables.specs.Rows.{is_block_of}
 use Rattle.dep_tables.specs.Tables.{Tables}
 use Rattle.dep_tables.specs.declared.owner.BlockOwner.TheVariants as owner

@@ -6,7 +6,7 @@ use Rattle.sqlite_trees.proofs.ListLemmas.{all_weaker}
 use Rattle.dep_fixity.specs.declared.hasher.Digests.{Digests}
 use Rattle.dep_types.specs.State.{State, File}
 use Rattle.dep_types.specs.Sound.{IsSound}
-use Rattle.dep_statements.specs.Rows.{IsOrdered}
+use Rattle.dep_tables.specs.Rowids.{IsOrdered}
 use Rattle.dep_tables.specs.Tables.{Tables}
 use Rattle.dep_tables.specs.declared.owner.BlockOwner.TheVariants as owner
 use Rattle.dep_tables.specs.declared.sha512s.FileSha512.{FileSha512}

@@ -5,7 +5,7 @@ use Rattle.std.proofs.lemmas.List.{map-append}
 use Rattle.sqlite.specs.declared.types.Value.{Value}
 use Rattle.sqlite.specs.declared.types.Value.TheVariants.{Int}
 use Rattle.sqlite_trees.specs.Tree.{rowid}
-use Rattle.dep_statements.specs.Rows.{IsOrdered, is_after}
+use Rattle.dep_tables.specs.Rowids.{IsOrdered, is_after}
 use Rattle.sqlite.specs.State.{State}
 use Rattle.dep_tables.specs.Tables.{Tables, tables_of, IsKnown}
 use Rattle.dep_schema.proofs.Stills.{IsStill, known_still, tables_still}

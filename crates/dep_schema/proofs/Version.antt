@@ -18,16 +18,16 @@ use Rattle.sqlite_resolve.specs.declared.error.CompileError.{CompileError}
 use Rattle.sqlite_resolve.specs.declared.error.CompileError.TheVariants.{NoSuchTable}
 use Rattle.sqlite_schema.specs.declared.program.Program.{Program}
 use Rattle.sqlite.proofs.Callers.{IsPlain, command_of, one_permutation}
-use Rattle.dep_statements.specs.Query.{one_table, plainly, no_limit, passes_tests}
-use Rattle.dep_statements.proofs.Answered.{shown_of, in_any_order}
-use Rattle.dep_statements.proofs.Asked.{store_only, shown_unchanged, unread, unread_as, understood_asks}
-use Rattle.dep_statements.proofs.Statements.{selected}
+use Rattle.dep_tables.specs.Query.{one_table, plainly, no_limit, passes_tests}
+use Rattle.dep_tables.proofs.Picked.{shown_of, in_any_order}
+use Rattle.dep_tables.proofs.Asked.{store_only, shown_unchanged, unread, unread_as, understood_asks}
+use Rattle.dep_tables.proofs.Statements.{selected}
 use Rattle.dep_tables.specs.Schema.{our_schema, older_schema}
 use Rattle.dep_schema.specs.Texts.{find_format_text}
 use Rattle.sqlite.specs.Tree.{Trees}
 use Rattle.sqlite.specs.Effect.{Database}
 use Rattle.sqlite.specs.Schema.{Schema}
-use Rattle.dep_statements.specs.Adding.{HasCounters}
+use Rattle.dep_tables.specs.Adding.{HasCounters}
 use Rattle.dep_migrations.specs.Beside.{LacksFormat}
 use Rattle.dep_schema.proofs.Missing.{find_missing, find_plain}
 use Rattle.dep_tables.specs.Tables.{tables_of, IsKnownSchema, IsKnown}

@@ -13,7 +13,7 @@ use Rattle.sqlite_value.specs.Order.{Row, value_cmp}
 use Rattle.sqlite_value.specs.declared.value.Value.{Value}
 use Rattle.sqlite_value.specs.declared.value.Value.TheVariants.{Int}
 use Rattle.sqlite_value.proofs.OrderLemmas.{value_cmp_total, value_cmp-Int}
-use Rattle.dep_statements.specs.Rows.{is_after}
+use Rattle.dep_tables.specs.Rowids.{is_after}
 
 abbrev IsAbove : Value → List Row → Type 0
 IsAbove v rows = AllByRecursion (λ r. value_cmp v (rowid r) ≡ Less) rows

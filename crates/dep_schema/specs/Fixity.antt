@@ -8,7 +8,7 @@ use Rattle.sqlite.specs.declared.types.Value.TheVariants.{Int, Blob}
 use Rattle.dep_fixity.specs.Fixity.{digests_of}
 use Rattle.dep_fixity.specs.declared.hasher.Digests.{Digests}
 use Rattle.dep_manifest.specs.Damaged.{number_unless_kept}
-use Rattle.dep_statements.specs.Rows.{InOrder, has_number}
+use Rattle.dep_tables.specs.Rowids.{InOrder, has_number}
 use Rattle.dep_schema.specs.Sent.{joined_blobs}
 use Rattle.dep_tables.specs.Rows.{IsDigestValue, shown_block, shown_sha256, is_block_of, is_sha512_of, value_in, by_part_and_place}
 use Rattle.dep_tables.specs.Tables.{Tables}

@@ -4,7 +4,7 @@ use Rattle.sqlite.specs.Schema.{Schema}
 use Rattle.sqlite.specs.Tree.{Trees}
 use Rattle.sqlite.specs.State.{State}
 use Rattle.sqlite_catalog.specs.Listing.{IsSound}
-use Rattle.dep_statements.specs.Adding.{HasCounters}
+use Rattle.dep_tables.specs.Adding.{HasCounters}
 use Rattle.dep_tables.specs.Tables.{Tables, tables_of, IsKnownSchema, IsKnown}
 use Rattle.dep_tables.specs.Versions.{IsKnownVersion, HasVersion}
 use Rattle.dep_migrations.specs.Beside.{LacksFormat, AreFree, with_ours}

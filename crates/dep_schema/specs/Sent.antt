@@ -6,7 +6,7 @@ use Rattle.sqlite.specs.Order.{Row, column}
 use Rattle.sqlite.specs.declared.types.Value.{Value}
 use Rattle.sqlite.specs.declared.types.Value.TheVariants.{Blob}
 use Rattle.sqlite.specs.State.{State, Begins}
-use Rattle.dep_statements.specs.Rows.{InOrder}
+use Rattle.dep_tables.specs.Rowids.{InOrder}
 use Rattle.dep_tables.specs.Rows.{shown_block, is_block_of, by_part_and_place}
 use Rattle.dep_tables.specs.Tables.{tables_of}
 use Rattle.dep_tables.specs.declared.owner.BlockOwner.{BlockOwner}

@@ -6,7 +6,7 @@ use Rattle.sqlite.specs.declared.types.Value.TheVariants.{Int}
 use Rattle.sqlite_trees.specs.Tree.{rowid}
 use Rattle.dep_fixity.specs.declared.hasher.Digests.{Digests}
 use Rattle.dep_row_maps.specs.Sha512s.{AreNumbered}
-use Rattle.dep_statements.specs.Rows.{is_after}
+use Rattle.dep_tables.specs.Rowids.{is_after}
 use Rattle.dep_schema.specs.Fixity.{AreDigestsOf}
 use Rattle.dep_tables.specs.Tables.{Tables}
 use Rattle.dep_tables.specs.declared.owner.BlockOwner.TheVariants as owner

@@ -2,7 +2,7 @@
 use Rattle.std.specs.Prelude.{◌≡◌, ℕ, pos, List, [], ◌∷◌, codes, Option, option_map}
 use Rattle.sqlite.specs.declared.types.Value.TheVariants.{Int}
 use Rattle.sqlite_value.specs.Order.{Row, column}
-use Rattle.dep_statements.specs.Rows.{row_at}
+use Rattle.dep_tables.specs.Rowids.{row_at}
 use Rattle.dep_tables.specs.Rows.{HasKinds}
 use Rattle.dep_tables.specs.Tables.{Tables}
 use Rattle.dep_tables.specs.declared.columns.ColumnKind.TheVariants as kind

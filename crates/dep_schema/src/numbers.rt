@@ -3,7 +3,7 @@
 ghost use Rattle.std.specs.Prelude.{◌≡◌, ◌∷◌, [], pos, IfOk, IfErr, map};
 ghost use Rattle.std.specs.Option.{option_to_list};
 ghost use Rattle.sqlite.specs.declared.types.Value.TheVariants.{Int};
-ghost use Rattle.dep_statements.specs.Rows.{columns_from};
+ghost use Rattle.dep_tables.specs.Rowids.{columns_from};
 ghost use Rattle.dep_tables.specs.Clauses.{AtMostOne, IsFaultAt};
 ghost use Rattle.dep_tables.specs.Rows.{IsNumberRow};
 ghost use Rattle.dep_tables.specs.Tables.{IsKnown};

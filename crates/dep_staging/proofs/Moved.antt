@@ -7,7 +7,7 @@ use Rattle.dep_types.specs.Rows.{file_row}
 use Rattle.dep_types.specs.Uploads.{assembled}
 use Rattle.dep_types.specs.declared.rows.UploadRow.{UploadRow}
 use Rattle.dep_types.specs.declared.rows.FileRow.{FileRow}
-use Rattle.dep_statements.specs.Rows.{IsOrdered, row_at}
+use Rattle.dep_tables.specs.Rowids.{IsOrdered, row_at}
 use Rattle.dep_tables.specs.Edits.{with_blocks_moved, LacksFileRow, with_new_file_row, with_new_sha512}
 use Rattle.dep_tables.specs.Tables.{Tables}
 use Rattle.dep_tables.specs.declared.owner.BlockOwner.TheVariants as owner

@@ -6,7 +6,7 @@ use Rattle.sqlite.specs.State as db
 use Rattle.sqlite.specs.State.{HasCleanDisk, Survives, IsUnchanged}
 use Rattle.sqlite.specs.Tree.{Trees}
 use Rattle.dep_types.specs.State.{State}
-use Rattle.dep_statements.specs.Rows.{IsOrdered}
+use Rattle.dep_tables.specs.Rowids.{IsOrdered}
 use Rattle.dep_tables.specs.Schema.{our_schema, older_schema}
 use Rattle.dep_tables.specs.Tables.{Tables, tables_in, tables_of, HasTablesOf, IsKnown}
 use Rattle.dep_row_maps.specs.Sha512s.{upgraded}

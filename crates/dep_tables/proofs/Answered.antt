@@ -8,9 +8,9 @@ use Rattle.sqlite.specs.declared.types.Value.{Value}
 use Rattle.sqlite.specs.Order.{Row}
 use Rattle.sqlite_rules.specs.Lists.{Has}
 use Rattle.sqlite_rules.proofs.ListLemmas.{all_from}
-use Rattle.dep_statements.specs.Rows.{columns_from, InOrder, IsFirst}
-use Rattle.dep_statements.proofs.Sorted.{short_permutation}
-use Rattle.dep_statements.proofs.Members.{map_same, mapped_from, permuted_from}
+use Rattle.dep_tables.specs.Rowids.{columns_from, InOrder, IsFirst}
+use Rattle.dep_tables.proofs.Sorted.{short_permutation}
+use Rattle.dep_tables.proofs.Members.{map_same, mapped_from, permuted_from}
 
 map_id : (rows : List Row) → map (λ r. r) rows ≡ rows
 map_id [] = refl

@@ -26,16 +26,16 @@ use Rattle.sqlite_sql.specs.declared.ops.CompareOp.TheVariants.{Lt}
 use Rattle.sqlite_schema.specs.Rules.{agree}
 use Rattle.sqlite_rules.specs.Edit.{with_rowid}
 use Rattle.sqlite_rules.specs.Lists.{Has}
-use Rattle.dep_statements.specs.Query.{equals, falls_below, no_limit, rising, passes_tests}
-use Rattle.dep_statements.specs.Rows.{put_next, columns_from, is_below_number, IsFirst}
-use Rattle.dep_statements.proofs.Values.{cast_int, cast_null}
-use Rattle.dep_statements.proofs.Tests.{equals_int, holds_number, passes_below, passes_two, passes_three, passes_four}
-use Rattle.dep_statements.proofs.Edits.{key_of, has_its_key}
-use Rattle.dep_statements.proofs.Typed.{kept_integer, stored_column}
-use Rattle.dep_statements.proofs.Unique.{IsKey}
-use Rattle.dep_statements.proofs.Results.{changed_by}
-use Rattle.dep_statements.proofs.Written.{Inserts, Deletes, Updates, inserts_next, updates_where}
-use Rattle.dep_statements.proofs.Selected.{Asks, first_only, selects_first}
+use Rattle.dep_tables.specs.Query.{equals, falls_below, no_limit, rising, passes_tests}
+use Rattle.dep_tables.specs.Rowids.{put_next, columns_from, is_below_number, IsFirst}
+use Rattle.dep_tables.proofs.Values.{cast_int, cast_null}
+use Rattle.dep_tables.proofs.Tests.{equals_int, holds_number, passes_below, passes_two, passes_three, passes_four}
+use Rattle.dep_tables.proofs.Edits.{key_of, has_its_key}
+use Rattle.dep_tables.proofs.Typed.{kept_integer, stored_column}
+use Rattle.dep_tables.proofs.Unique.{IsKey}
+use Rattle.dep_tables.proofs.RowsLeft.{changed_by}
+use Rattle.dep_tables.proofs.Written.{Inserts, Deletes, Updates, inserts_next, updates_where}
+use Rattle.dep_tables.proofs.Selected.{Asks, first_only, selects_first}
 use Rattle.dep_tables.specs.Schema.{our_schema, blocks_table}
 use Rattle.dep_tables.specs.Texts.{insert_block_text, delete_blocks_text, delete_run_text, move_blocks_text, move_run_text, read_block_text, first_block_text, last_block_text}
 use Rattle.dep_tables.specs.declared.owner.BlockOwner.{BlockOwner}

@@ -7,7 +7,7 @@ use Rattle.sqlite.specs.State.{State, HasCleanDisk, KeepsCommit, IsUnchanged, Is
 use Rattle.sqlite.proofs.StateLemmas.{survives_then}
 use Rattle.sqlite.proofs.InsideLemmas.{keeps_then}
 use Rattle.sqlite.proofs.Callers.{unchanged_then}
-use Rattle.dep_statements.proofs.Asked.{shown_unchanged}
+use Rattle.dep_tables.proofs.Asked.{shown_unchanged}
 use Rattle.dep_tables.specs.Clauses.{StaysWithin, ReadsWithin, MayReadWithin, AsksWithin, IsPlainIn}
 use Rattle.dep_tables.specs.Tables.{IsOurs, HasOurTables}
 use Rattle.dep_tables.proofs.Results.{if_ok, if_failed, ok_then, failed_as}

@@ -9,13 +9,13 @@ use Rattle.sqlite.specs.State.{State, ExecutesInside, Shown}
 use Rattle.sqlite.specs.declared.types.Value.TheVariants.{Null, Int, Text, Blob}
 use Rattle.sqlite_trees.specs.Tree.{put_row}
 use Rattle.sqlite_rules.specs.Edit.{with_rowid}
-use Rattle.dep_statements.specs.Query.{no_limit}
-use Rattle.dep_statements.specs.Rows.{row_at, has_number, columns_from}
-use Rattle.dep_statements.proofs.Values.{cast_int, cast_null, cast_text_or_null}
-use Rattle.dep_statements.proofs.Tests.{passes_key}
-use Rattle.dep_statements.proofs.Answered.{by_rowid}
-use Rattle.dep_statements.proofs.Written.{Inserts, Deletes, inserts_keyed}
-use Rattle.dep_statements.proofs.Selected.{Asks, selects_in_order}
+use Rattle.dep_tables.specs.Query.{no_limit}
+use Rattle.dep_tables.specs.Rowids.{row_at, has_number, columns_from}
+use Rattle.dep_tables.proofs.Values.{cast_int, cast_null, cast_text_or_null}
+use Rattle.dep_tables.proofs.Tests.{passes_key}
+use Rattle.dep_tables.proofs.Picked.{by_rowid}
+use Rattle.dep_tables.proofs.Written.{Inserts, Deletes, inserts_keyed}
+use Rattle.dep_tables.proofs.Selected.{Asks, selects_in_order}
 use Rattle.dep_types.specs.declared.rows.FileRow.{FileRow}
 use Rattle.dep_tables.specs.Schema.{our_schema}
 use Rattle.dep_tables.specs.Texts.{insert_file_text, delete_file_text, delete_files_text, find_file_text, files_of_text, sha256s_of_text}

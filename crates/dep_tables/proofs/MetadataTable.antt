@@ -18,13 +18,13 @@ use Rattle.sqlite_value.specs.Order.{value_cmp}
 use Rattle.sqlite_value.proofs.OrderLemmas.{value_cmp_total, then-Equal}
 use Rattle.sqlite_schema.specs.Rules.{agree}
 use Rattle.sqlite_rules.specs.Edit.{with_rowid}
-use Rattle.dep_statements.specs.Query.{no_limit, rising}
-use Rattle.dep_statements.specs.Rows.{has_number, put_next, columns_from, InOrder}
-use Rattle.dep_statements.proofs.Values.{cast_int, cast_null}
-use Rattle.dep_statements.proofs.Tests.{equals_int, equals_text, passes_key}
-use Rattle.dep_statements.proofs.Unique.{IsKey}
-use Rattle.dep_statements.proofs.Written.{IsListed, Inserts, Deletes, inserts_next}
-use Rattle.dep_statements.proofs.Selected.{Asks, selects_sorted}
+use Rattle.dep_tables.specs.Query.{no_limit, rising}
+use Rattle.dep_tables.specs.Rowids.{has_number, put_next, columns_from, InOrder}
+use Rattle.dep_tables.proofs.Values.{cast_int, cast_null}
+use Rattle.dep_tables.proofs.Tests.{equals_int, equals_text, passes_key}
+use Rattle.dep_tables.proofs.Unique.{IsKey}
+use Rattle.dep_tables.proofs.Written.{IsListed, Inserts, Deletes, inserts_next}
+use Rattle.dep_tables.proofs.Selected.{Asks, selects_sorted}
 use Rattle.dep_tables.specs.Schema.{our_schema, metadata_table}
 use Rattle.dep_tables.specs.Texts.{insert_metadata_text, delete_metadata_text, metadata_of_text}
 use Rattle.dep_tables.specs.Rows.{metadata_values, shown_metadata, has_metadata_key, by_name_and_place}

@@ -10,13 +10,13 @@ use Rattle.sqlite.specs.Term.{Term, lit, col}
 use Rattle.sqlite.specs.State.{State, ExecutesInside}
 use Rattle.sqlite_trees.specs.Tree.{put_row}
 use Rattle.sqlite_rules.specs.Edit.{with_rowid}
-use Rattle.dep_statements.specs.Query.{exceeds, no_limit}
-use Rattle.dep_statements.specs.Rows.{row_at, replaced}
-use Rattle.dep_statements.proofs.Values.{cast_int, cast_null}
-use Rattle.dep_statements.proofs.Tests.{passes_given}
-use Rattle.dep_statements.proofs.Answered.{by_rowid}
-use Rattle.dep_statements.proofs.Written.{IsListed, Inserts, Updates, Deletes, inserts_keyed, updates_keyed}
-use Rattle.dep_statements.proofs.Selected.{Asks, first_only}
+use Rattle.dep_tables.specs.Query.{exceeds, no_limit}
+use Rattle.dep_tables.specs.Rowids.{row_at, replaced}
+use Rattle.dep_tables.proofs.Values.{cast_int, cast_null}
+use Rattle.dep_tables.proofs.Tests.{passes_given}
+use Rattle.dep_tables.proofs.Picked.{by_rowid}
+use Rattle.dep_tables.proofs.Written.{IsListed, Inserts, Updates, Deletes, inserts_keyed, updates_keyed}
+use Rattle.dep_tables.proofs.Selected.{Asks, first_only}
 use Rattle.dep_tables.specs.Schema.{our_schema, objects_table}
 use Rattle.dep_tables.specs.Texts.{insert_object_text, write_object_text, delete_object_text, find_object_text, next_object_text}
 use Rattle.dep_types.specs.declared.rows.ObjectRow.{ObjectRow}

@@ -12,13 +12,13 @@ use Rattle.sqlite_value.specs.Keys.{plain, first_key}
 use Rattle.sqlite_schema.specs.Rules.{agree}
 use Rattle.sqlite_trees.specs.Tree.{with_tree, without_rowid, rowid}
 use Rattle.sqlite_trees.proofs.ListLemmas.{all-slice_get}
-use Rattle.dep_statements.specs.Query.{equals, exceeds, no_limit, passes_tests}
-use Rattle.dep_statements.specs.Rows.{IsOrdered, row_at, columns_from, is_after, has_number}
-use Rattle.dep_statements.proofs.Tests.{equals_int, passes_key, passes_after}
-use Rattle.dep_statements.proofs.Answered.{by_rowid, shown_of}
-use Rattle.dep_statements.proofs.Results.{Made}
-use Rattle.dep_statements.proofs.Written.{IsListed, table_of, Deletes, deletes_where, deletes_keyed}
-use Rattle.dep_statements.proofs.Selected.{Asks, first_only, selects_keyed, selects_next, selects_all}
+use Rattle.dep_tables.specs.Query.{equals, exceeds, no_limit, passes_tests}
+use Rattle.dep_tables.specs.Rowids.{IsOrdered, row_at, columns_from, is_after, has_number}
+use Rattle.dep_tables.proofs.Tests.{equals_int, passes_key, passes_after}
+use Rattle.dep_tables.proofs.Picked.{by_rowid, shown_of}
+use Rattle.dep_tables.proofs.RowsLeft.{Made}
+use Rattle.dep_tables.proofs.Written.{IsListed, table_of, Deletes, deletes_where, deletes_keyed}
+use Rattle.dep_tables.proofs.Selected.{Asks, first_only, selects_keyed, selects_next, selects_all}
 use Rattle.dep_tables.specs.Schema.{our_schema}
 use Rattle.dep_tables.specs.Tables.{tables_in, IsOurs, Leads}
 use Rattle.dep_tables.proofs.Leading.{leads}

@@ -14,13 +14,13 @@ use Rattle.sqlite_value.specs.declared.keys.Key.{Key}
 use Rattle.sqlite_value.specs.Order.{value_cmp}
 use Rattle.sqlite_value.proofs.OrderLemmas.{value_cmp_total, then-Equal}
 use Rattle.sqlite_rules.specs.Edit.{with_rowid}
-use Rattle.dep_statements.specs.Query.{no_limit, rising}
-use Rattle.dep_statements.specs.Rows.{has_number, put_next, columns_from, InOrder}
-use Rattle.dep_statements.proofs.Values.{cast_int, cast_null}
-use Rattle.dep_statements.proofs.Tests.{passes_key}
-use Rattle.dep_statements.proofs.Unique.{IsKey}
-use Rattle.dep_statements.proofs.Written.{IsListed, Inserts, Deletes, inserts_next}
-use Rattle.dep_statements.proofs.Selected.{Asks, selects_sorted}
+use Rattle.dep_tables.specs.Query.{no_limit, rising}
+use Rattle.dep_tables.specs.Rowids.{has_number, put_next, columns_from, InOrder}
+use Rattle.dep_tables.proofs.Values.{cast_int, cast_null}
+use Rattle.dep_tables.proofs.Tests.{passes_key}
+use Rattle.dep_tables.proofs.Unique.{IsKey}
+use Rattle.dep_tables.proofs.Written.{IsListed, Inserts, Deletes, inserts_next}
+use Rattle.dep_tables.proofs.Selected.{Asks, selects_sorted}
 use Rattle.dep_tables.specs.Schema.{our_schema, segments_table}
 use Rattle.dep_tables.specs.Texts.{insert_segment_text, delete_segments_text, segments_of_text}
 use Rattle.dep_tables.specs.Rows.{segment_values, shown_segment, has_segment_key, by_number}

@@ -8,12 +8,12 @@ use Rattle.sqlite.specs.Term.{lit, col}
 use Rattle.sqlite.specs.State.{State, ExecutesInside}
 use Rattle.sqlite.specs.declared.types.Value.TheVariants.{Null, Blob}
 use Rattle.sqlite_rules.specs.Edit.{with_rowid}
-use Rattle.dep_statements.specs.Query.{no_limit}
-use Rattle.dep_statements.specs.Rows.{put_next}
-use Rattle.dep_statements.proofs.Values.{cast_int, cast_null}
-use Rattle.dep_statements.proofs.Unique.{IsKey}
-use Rattle.dep_statements.proofs.Written.{Inserts, Deletes, inserts_next}
-use Rattle.dep_statements.proofs.Selected.{Asks}
+use Rattle.dep_tables.specs.Query.{no_limit}
+use Rattle.dep_tables.specs.Rowids.{put_next}
+use Rattle.dep_tables.proofs.Values.{cast_int, cast_null}
+use Rattle.dep_tables.proofs.Unique.{IsKey}
+use Rattle.dep_tables.proofs.Written.{Inserts, Deletes, inserts_next}
+use Rattle.dep_tables.proofs.Selected.{Asks}
 use Rattle.dep_tables.specs.Schema.{our_schema, sha512s_table}
 use Rattle.dep_tables.specs.Texts.{insert_sha512_text, delete_sha512_text, find_sha512_text}
 use Rattle.dep_tables.specs.declared.owner.BlockOwner.{BlockOwner}

@@ -9,12 +9,12 @@ use Rattle.sqlite.specs.declared.types.Value.TheVariants.{Null, Int}
 use Rattle.sqlite.specs.Order.{Row}
 use Rattle.sqlite.specs.Term.{Term, lit, col}
 use Rattle.sqlite.specs.State.{State, ExecutesInside, Shown}
-use Rattle.dep_statements.specs.Query.{equals, no_limit}
-use Rattle.dep_statements.specs.Rows.{row_at, replaced, columns_from}
-use Rattle.dep_statements.proofs.Values.{cast_int, cast_null}
-use Rattle.dep_statements.proofs.Tests.{passes_number}
-use Rattle.dep_statements.proofs.Written.{IsListed, Updates, updates_keyed}
-use Rattle.dep_statements.proofs.Selected.{Asks, selects_keyed}
+use Rattle.dep_tables.specs.Query.{equals, no_limit}
+use Rattle.dep_tables.specs.Rowids.{row_at, replaced, columns_from}
+use Rattle.dep_tables.proofs.Values.{cast_int, cast_null}
+use Rattle.dep_tables.proofs.Tests.{passes_number}
+use Rattle.dep_tables.proofs.Written.{IsListed, Updates, updates_keyed}
+use Rattle.dep_tables.proofs.Selected.{Asks, selects_keyed}
 use Rattle.dep_tables.specs.Schema.{our_schema, state_table}
 use Rattle.dep_tables.specs.Texts.{write_state_text, read_state_text}
 use Rattle.dep_tables.specs.Rows.{stored_state, state_values, shown_state}

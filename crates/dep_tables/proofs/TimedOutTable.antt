@@ -10,12 +10,12 @@ use Rattle.sqlite.specs.State.{State, ExecutesInside, Shown}
 use Rattle.sqlite.specs.declared.types.Value.TheVariants.{Null, Int}
 use Rattle.sqlite_trees.specs.Tree.{put_row, rowid}
 use Rattle.sqlite_rules.specs.Edit.{with_rowid}
-use Rattle.dep_statements.specs.Query.{equals, no_limit}
-use Rattle.dep_statements.specs.Rows.{row_at, columns_from}
-use Rattle.dep_statements.proofs.Values.{cast_int, cast_null}
-use Rattle.dep_statements.proofs.Tests.{passes_key}
-use Rattle.dep_statements.proofs.Written.{IsListed, Inserts, inserts_keyed}
-use Rattle.dep_statements.proofs.Selected.{Asks, selects_keyed}
+use Rattle.dep_tables.specs.Query.{equals, no_limit}
+use Rattle.dep_tables.specs.Rowids.{row_at, columns_from}
+use Rattle.dep_tables.proofs.Values.{cast_int, cast_null}
+use Rattle.dep_tables.proofs.Tests.{passes_key}
+use Rattle.dep_tables.proofs.Written.{IsListed, Inserts, inserts_keyed}
+use Rattle.dep_tables.proofs.Selected.{Asks, selects_keyed}
 use Rattle.dep_tables.specs.Schema.{our_schema, timed_out_table}
 use Rattle.dep_tables.specs.Texts.{insert_timed_out_text, find_timed_out_text}
 use Rattle.dep_tables.specs.Rows.{stored_number}

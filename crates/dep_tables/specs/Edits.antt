@@ -5,7 +5,7 @@ use Rattle.std.specs.Option.{option_to_list}
 use Rattle.sqlite.specs.declared.types.Value.{Value}
 use Rattle.sqlite.specs.declared.types.Value.TheVariants.{Int}
 use Rattle.sqlite_trees.specs.Tree.{put_row, without_rowid, rowid}
-use Rattle.dep_statements.specs.Rows.{row_at, replaced, is_after, is_below_number, has_number, put_next, InOrder, IsFirst}
+use Rattle.dep_tables.specs.Rowids.{row_at, replaced, is_after, is_below_number, has_number, put_next, InOrder, IsFirst}
 use Rattle.dep_types.specs.declared.rows.ObjectRow.{ObjectRow}
 use Rattle.dep_types.specs.declared.rows.FileRow.{FileRow}
 use Rattle.dep_tables.specs.declared.state.StateRow.{StateRow}

@@ -1,3 +1,8 @@
+pub mod PlainTables
+pub mod Query
+pub mod Rowids
+pub mod Adding
+pub mod Indexes
 pub mod Schema
 pub mod Texts
 pub mod Rows

@@ -4,7 +4,7 @@ use Rattle.sqlite.specs.Table.{Table}
 use Rattle.sqlite.specs.Schema.{Schema}
 use Rattle.sqlite_schema.specs.declared.schema.Index.{Index}
 use Rattle.sqlite.specs.Kind.TheVariants.{Integer, Text, Blob}
-use Rattle.dep_statements.specs.Tables.{column_of, keyed_table, indexed_table, index_of, plain_index}
+use Rattle.dep_tables.specs.PlainTables.{column_of, keyed_table, indexed_table, index_of, plain_index}
 
 -- the version of the tables, in one row
 abbrev pub format_table : Table

@@ -7,7 +7,7 @@ use Rattle.sqlite.specs.Tree.{Trees}
 use Rattle.sqlite.specs.Effect.{Database}
 use Rattle.sqlite.specs.State.{State, Shows}
 use Rattle.sqlite_catalog.specs.Listing.{IsSound}
-use Rattle.dep_statements.specs.Rows.{AreOrdered}
+use Rattle.dep_tables.specs.Rowids.{AreOrdered}
 use Rattle.dep_tables.specs.Schema.{older_schema, our_schema}
 
 -- of each table the rows that its tree has, the rowid in front of each

@@ -6,7 +6,7 @@ ghost use Rattle.sqlite.specs.Order.{Row as Values};
 ghost use Rattle.sqlite.specs.declared.types.Value.TheVariants.{Int};
 ghost use Rattle.sqlite.specs.State.{HasCleanDisk};
 ghost use Rattle.sqlite.specs.Values.{bound};
-ghost use Rattle.dep_statements.specs.Rows.{columns_from};
+ghost use Rattle.dep_tables.specs.Rowids.{columns_from};
 ghost use Rattle.dep_tables.specs.declared.columns.ColumnKind.{ColumnKind};
 ghost use Rattle.dep_tables.specs.Rows.{HasKinds, number_kinds};
 ghost use Rattle.dep_tables.specs.Clauses.{AtMostOne, IsFaultAt, FailsWithRows, FailsToRead, ShowsColumns, AsksWithin};

@@ -8,7 +8,7 @@ use Rattle.sqlite.specs.Held.{Held, state}
 use Rattle.sqlite.specs.declared.transaction.Transaction.{Transaction}
 use Rattle.sqlite.specs.State as db
 use Rattle.sqlite.specs.State.{HasCleanDisk, KeepsCommit, Survives, IsRolledBack, IsUnchanged, ExecutesInside, Shown, FailsToQuery, IsTooLate}
-use Rattle.dep_statements.proofs.Asked.{shown_keeps, shown_mode, asks_keep, asks_leave}
+use Rattle.dep_tables.proofs.Asked.{shown_keeps, shown_mode, asks_keep, asks_leave}
 use Rattle.dep_tables.specs.Clauses.{StaysWithin}
 use Rattle.dep_tables.proofs.Chains.{left_whole}
 use Rattle.dep_tables.proofs.Results.{if_ok, if_failed, ok_then}

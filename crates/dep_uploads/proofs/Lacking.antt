@@ -8,7 +8,7 @@ use Rattle.sqlite_value.specs.Order.{Row, value_cmp}
 use Rattle.sqlite_value.specs.declared.value.Value.TheVariants.{Int}
 use Rattle.sqlite_trees.proofs.ListLemmas.{IsPermutation-filter}
 use Rattle.dep_types.specs.State.{State}
-use Rattle.dep_statements.specs.Rows.{has_number}
+use Rattle.dep_tables.specs.Rowids.{has_number}
 use Rattle.dep_tables.specs.Edits.{LacksSegmentRow}
 use Rattle.dep_tables.specs.Rows.{has_segment_key, segment_values, shown_segment}
 use Rattle.dep_tables.specs.Tables.{Tables}

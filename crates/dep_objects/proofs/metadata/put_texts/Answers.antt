@@ -1,7 +1,7 @@
 use Rattle.std.specs.Prelude.{⊤}
 use Rattle.std.proofs.Common.{◌<◌, ◌≡◌, ◌+◌, length, take, get_or, ap, ◌∙◌, Ok, Err, arith, refl}
 use Rattle.std.proofs.lemmas.List.{take_all}
-use Rattle.dep_statements.specs.Rows.{put_next}
+use Rattle.dep_tables.specs.Rowids.{put_next}
 use Rattle.dep_tables.proofs.Chains.{clean_before, stays_err, stays_ok, stays_then}
 use Rattle.dep_tables.specs.Rows.{metadata_values}
 use Rattle.dep_tables.specs.Tables.{tables_of}

@@ -1,5 +1,5 @@
 use Rattle.std.proofs.Common.{ℕ, inl, inr, ap, subst, map, ◌∙◌}
-use Rattle.dep_statements.specs.Rows.{columns_from}
+use Rattle.dep_tables.specs.Rowids.{columns_from}
 use Rattle.sqlite.specs.Held.{state}
 use Rattle.dep_tables.specs.Clauses.{AtMostOne, IsFaultAt}
 use Rattle.dep_tables.specs.Rows.{IsNumberRow}

@@ -1,5 +1,5 @@
 use Rattle.std.proofs.Common.{None, Some, ap, refl, sym, ◌∙◌}
-use Rattle.dep_statements.specs.Rows.{row_at}
+use Rattle.dep_tables.specs.Rowids.{row_at}
 use Rattle.dep_tables.specs.Edits.{with_new_upload_row}
 use Rattle.dep_tables.specs.Tables.{tables_of}
 use Rattle.dep_tables.specs.declared.uploads.UploadColumns.{UploadColumns}

@@ -1,7 +1,7 @@
 use Rattle.std.proofs.Common.{◌≡◌, ◌∙◌, ◌<◌, ◌+◌, ℕ, List, [], ◌∷◌, ◌++◌, map, take, length, get_or, inr, sym, ap, ap₂, take-suc, add-one, arith}
 use Rattle.std.proofs.lemmas.List.{map-append, take_all}
 use Rattle.sqlite.specs.Order.{Row}
-use Rattle.dep_statements.specs.Rows.{columns_from}
+use Rattle.dep_tables.specs.Rowids.{columns_from}
 use Rattle.dep_tables.proofs.Results.{err_then}
 use Rattle.dep_tables.proofs.reading.all.Goals as goal
 

@@ -1,5 +1,5 @@
 use Rattle.std.proofs.Common.{◌≡◌, map, take}
-use Rattle.dep_statements.specs.Rows.{columns_from}
+use Rattle.dep_tables.specs.Rowids.{columns_from}
 use Rattle.dep_tables.proofs.reading.all.Given as goal
 
 abbrev pub invariant-rows : goal.invariant-rows

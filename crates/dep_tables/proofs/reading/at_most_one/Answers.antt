@@ -1,6 +1,6 @@
 use Rattle.std.proofs.Common.{◌≡◌, ◌≤◌, ◌<◌, ◌∙◌, List, [], ◌∷◌, All, map, length, get_or, inr, ap, subst, arith}
 use Rattle.std.proofs.lemmas.List.Elements.{All-cons, All-nil}
-use Rattle.dep_statements.specs.Rows.{columns_from}
+use Rattle.dep_tables.specs.Rowids.{columns_from}
 use Rattle.dep_tables.specs.Rows.{HasKinds}
 use Rattle.dep_tables.proofs.Results.{err_then}
 use Rattle.dep_tables.proofs.reading.at_most_one.Goals as goal

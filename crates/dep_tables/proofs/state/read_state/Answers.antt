@@ -5,7 +5,7 @@ use Rattle.std.proofs.lemmas.List.{length-map}
 use Rattle.sqlite.specs.Order.{Row}
 use Rattle.sqlite.specs.State.{State, Shown}
 use Rattle.dep_types.specs.declared.store_fault.StoreFault.TheVariants.{Store}
-use Rattle.dep_statements.specs.Rows.{columns_from}
+use Rattle.dep_tables.specs.Rowids.{columns_from}
 use Rattle.dep_tables.proofs.Chains.{plain_reads, reads_ok, reads_err}
 use Rattle.dep_tables.specs.Texts.{read_state_text}
 use Rattle.dep_tables.specs.Tables.{IsOurs, tables_of}

@@ -1,5 +1,5 @@
 use Rattle.std.proofs.Common.{refl}
-use Rattle.dep_statements.proofs.Asked.{asks_leave}
+use Rattle.dep_tables.proofs.Asked.{asks_leave}
 use Rattle.sqlite.specs.Held.{state}
 use Rattle.dep_transactions.proofs.Asking.{asks_stay, lent_stays, shown_stays}
 use Rattle.dep_transactions.proofs.lending.LentStatements.ask.Goals as goal

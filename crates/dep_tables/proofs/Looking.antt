@@ -10,11 +10,11 @@ use Rattle.sqlite_trees.specs.Tree.{rowid, has_rowid, without_rowid, put_row}
 use Rattle.sqlite_trees.proofs.TreeLemmas.{later_rowids}
 use Rattle.sqlite_trees.proofs.ListLemmas.{filter_same, ascending-filter}
 use Rattle.sqlite_rules.proofs.ListLemmas.{all_from}
-use Rattle.dep_statements.specs.Query.{one_table, no_limit, passes_tests}
-use Rattle.dep_statements.specs.Rows.{IsOrdered, replaced}
-use Rattle.dep_statements.proofs.Asking.{Picks}
-use Rattle.dep_statements.proofs.Answered.{shown_of, of_few, in_key_order, first_in_key_order, by_rowid}
-use Rattle.dep_statements.proofs.Keys.{found_row, find_none, find_head}
+use Rattle.dep_tables.specs.Query.{one_table, no_limit, passes_tests}
+use Rattle.dep_tables.specs.Rowids.{IsOrdered, replaced}
+use Rattle.dep_tables.proofs.Asking.{Picks}
+use Rattle.dep_tables.proofs.Picked.{shown_of, of_few, in_key_order, first_in_key_order, by_rowid}
+use Rattle.dep_tables.proofs.Keys.{found_row, find_none, find_head}
 
 pub same_filter : (p q : Row → Bool) (rows : List Row) → ((r : Row) → p r ≡ q r) → filter p rows ≡ filter q rows
 same_filter p q rows h = filter_same p q rows (all_from _ rows (λ r k. h r))

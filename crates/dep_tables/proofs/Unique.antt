@@ -17,9 +17,9 @@ use Rattle.sqlite_rules.specs.Lists.{Has}
 use Rattle.sqlite_rules.specs.Edit.{is_taken}
 use Rattle.sqlite_rules.proofs.ListLemmas.{all_has, some_has, some_from}
 use Rattle.sqlite_rules.proofs.TableLemmas.{put_all_keeps}
-use Rattle.dep_statements.specs.Tables.{index_of}
-use Rattle.dep_statements.specs.Rows.{IsOrdered}
-use Rattle.dep_statements.proofs.Tests.{differs_int}
+use Rattle.dep_tables.specs.PlainTables.{index_of}
+use Rattle.dep_tables.specs.Rowids.{IsOrdered}
+use Rattle.dep_tables.proofs.Tests.{differs_int}
 
 -- the schema has a unique index over these places of the table
 pub record IsKey (schema : Schema) (table : Table) (places : List ℕ) : Type 0 where

@@ -16,10 +16,10 @@ use Rattle.sqlite_schema.specs.declared.schema.Constraint.TheVariants.{Datatype}
 use Rattle.sqlite_schema.specs.Rules.{is_of, suits, are_typed, passes, Obeys}
 use Rattle.sqlite_rules.specs.Lists.{Has}
 use Rattle.sqlite_rules.proofs.ListLemmas.{all_has}
-use Rattle.dep_statements.specs.Tables.{column_of}
-use Rattle.dep_statements.proofs.Answered.{drop-none}
-use Rattle.dep_statements.proofs.Unique.{all_at}
-use Rattle.dep_statements.proofs.Values.{cast_int, cast_null}
+use Rattle.dep_tables.specs.PlainTables.{column_of}
+use Rattle.dep_tables.proofs.Picked.{drop-none}
+use Rattle.dep_tables.proofs.Unique.{all_at}
+use Rattle.dep_tables.proofs.Values.{cast_int, cast_null}
 
 -- a whole number, or NULL
 pub kept_integer : (v : Value) → is_of kind.Integer v ≡ true → cast kind.Integer v ≡ v

@@ -29,15 +29,15 @@ use Rattle.sqlite_rules.specs.Edit.{numbered, is_taken, next_rowid}
 use Rattle.sqlite_rules.specs.Lists.{Has}
 use Rattle.sqlite_rules.proofs.ListLemmas.{all_from}
 use Rattle.sqlite_rules.proofs.TableLemmas.{put_all_adds}
-use Rattle.dep_statements.specs.Tables.{plain_table}
-use Rattle.dep_statements.specs.Query.{one_table, plainly, no_limit, passes_tests}
-use Rattle.dep_statements.specs.Rows.{IsOrdered, row_at, replaced, put_next}
-use Rattle.dep_statements.proofs.Statements.{inserted, updated, deleted}
-use Rattle.dep_statements.proofs.Results.{Made, same_made, changed_by, puts, takes, changes, replaces_row}
-use Rattle.dep_statements.proofs.Looking.{without_key, without_passing}
-use Rattle.dep_statements.proofs.Found.{not_there}
-use Rattle.dep_statements.proofs.Members.{map_same}
-use Rattle.dep_statements.proofs.Unique.{IsKey, no_clash, no_key}
+use Rattle.dep_tables.specs.PlainTables.{plain_table}
+use Rattle.dep_tables.specs.Query.{one_table, plainly, no_limit, passes_tests}
+use Rattle.dep_tables.specs.Rowids.{IsOrdered, row_at, replaced, put_next}
+use Rattle.dep_tables.proofs.Statements.{inserted, updated, deleted}
+use Rattle.dep_tables.proofs.RowsLeft.{Made, same_made, changed_by, puts, takes, changes, replaces_row}
+use Rattle.dep_tables.proofs.Looking.{without_key, without_passing}
+use Rattle.dep_tables.proofs.Found.{not_there}
+use Rattle.dep_tables.proofs.Members.{map_same}
+use Rattle.dep_tables.proofs.Unique.{IsKey, no_clash, no_key}
 
 -- the schema has a plain table of this tree at this place, and no write of it sets off another
 pub record IsListed (schema : Schema) (at tree : ℕ) : Type 0 where

@@ -22,13 +22,13 @@ use Rattle.sqlite_rules.specs.Cast.{cast_row}
 use Rattle.sqlite_rules.specs.Edit.{edit_of, id_in, numbered, without_all, put_all, are_fresh, is_taken}
 use Rattle.sqlite_rules.specs.Calls.{ids_of}
 use Rattle.sqlite_rules.proofs.PlaceLemmas.{given}
-use Rattle.dep_statements.specs.Query.{one_table, no_limit, passes_tests}
-use Rattle.dep_statements.specs.Rows.{IsOrdered, replaced}
-use Rattle.dep_statements.proofs.Asking.{Picks}
-use Rattle.dep_statements.proofs.Answered.{shown_of, in_any_order}
-use Rattle.dep_statements.proofs.Edits.{key_of, left_rows, changed_rows, changed_ordered}
-use Rattle.dep_statements.proofs.Keys.{row_key, replaces}
-use Rattle.dep_statements.proofs.Statements.{Wrote}
+use Rattle.dep_tables.specs.Query.{one_table, no_limit, passes_tests}
+use Rattle.dep_tables.specs.Rowids.{IsOrdered, replaced}
+use Rattle.dep_tables.proofs.Asking.{Picks}
+use Rattle.dep_tables.proofs.Picked.{shown_of, in_any_order}
+use Rattle.dep_tables.proofs.Edits.{key_of, left_rows, changed_rows, changed_ordered}
+use Rattle.dep_tables.proofs.Keys.{row_key, replaces}
+use Rattle.dep_tables.proofs.Statements.{Wrote}
 
 -- the transaction goes on with these rows in this table, and the other tables keep theirs
 pub record Made (schema : Schema) (old new : State) (tree : ℕ) (rows : List Row) : Type 0 where

@@ -12,9 +12,9 @@ use Rattle.sqlite_schema.specs.declared.schema.Index.{Index}
 use Rattle.sqlite_schema.specs.Names.{same_name, table_named}
 use Rattle.sqlite_resolve.specs.Compile.{index_defined_by}
 use Rattle.sqlite_catalog.specs.Change.{indexed, next_tree, is_used, KeepsRows}
-use Rattle.dep_statements.proofs.Adding.{none_of, placed_before}
-use Rattle.dep_statements.proofs.Writes.{went, same_value}
-use Rattle.dep_statements.specs.Indexes.{Indexes}
+use Rattle.dep_tables.proofs.Adding.{none_of, placed_before}
+use Rattle.dep_tables.proofs.Writes.{went, same_value}
+use Rattle.dep_tables.specs.Indexes.{Indexes}
 
 -- a name that is free once an index is made was free before
 pub indexed_keeps : (schema : Schema) (table : Table) (index : Index) (name : List ℕ) → is_used (indexed schema table index) name ≡ false → is_used schema name ≡ false

@@ -9,7 +9,7 @@ use Rattle.sqlite.specs.Term.{Term, Env}
 use Rattle.sqlite.specs.Query.{Query, Join, IsAnswer, matches, inner, end, output, output_cmp, page, Output}
 use Rattle.sqlite.specs.Program.{overlay}
 use Rattle.sqlite.specs.Effect.{Database, Answers}
-use Rattle.dep_statements.specs.Query.{plain_query, one_table, plainly, passes_tests}
+use Rattle.dep_tables.specs.Query.{plain_query, one_table, plainly, passes_tests}
 
 -- What is found, each as an environment: it is put in an order that ORDER BY allows, shown and cut.
 pub record PicksBy {X : Type 0} (q : Query) (params : Row) (env : X → Env) (found : List X) (rows : List Row) : Type 0 where

@@ -16,12 +16,12 @@ use Rattle.sqlite.specs.State.{State, Shown, Begins}
 use Rattle.sqlite.proofs.Callers.{IsPlain, command_of, begins_as}
 use Rattle.sqlite_value.specs.declared.keys.Key.{Key}
 use Rattle.sqlite_trees.specs.Tree.{has_rowid}
-use Rattle.dep_statements.specs.Query.{one_table, plainly, no_limit, passes_tests}
-use Rattle.dep_statements.specs.Rows.{IsOrdered, InOrder, IsFirst}
-use Rattle.dep_statements.proofs.Asking.{Picks, answers}
-use Rattle.dep_statements.proofs.Answered.{shown_of, by_rowid, in_any_order, in_order, drop-none}
-use Rattle.dep_statements.proofs.Looking.{by_key, by_next, by_order, same_filter}
-use Rattle.dep_statements.proofs.Statements.{selected}
+use Rattle.dep_tables.specs.Query.{one_table, plainly, no_limit, passes_tests}
+use Rattle.dep_tables.specs.Rowids.{IsOrdered, InOrder, IsFirst}
+use Rattle.dep_tables.proofs.Asking.{Picks, answers}
+use Rattle.dep_tables.proofs.Picked.{shown_of, by_rowid, in_any_order, in_order, drop-none}
+use Rattle.dep_tables.proofs.Looking.{by_key, by_next, by_order, same_filter}
+use Rattle.dep_tables.proofs.Statements.{selected}
 
 abbrev pub first_only : Term
 first_only = lit (Int (pos 1))

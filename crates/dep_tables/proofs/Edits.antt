@@ -18,9 +18,9 @@ use Rattle.sqlite_rules.specs.Edit.{id_in, without_all, put_all, are_fresh}
 use Rattle.sqlite_rules.proofs.ListLemmas.{all_has, all_from, some_has, some_from, has_filtered, has_kept}
 use Rattle.sqlite_rules.proofs.TableLemmas.{int_is, put_all_has, put_all_keeps, put_all_adds}
 use Rattle.sqlite_rules.proofs.PlaceLemmas.{Tied, tied_same}
-use Rattle.dep_statements.specs.Rows.{IsOrdered}
-use Rattle.dep_statements.proofs.Sorted.{same_lists}
-use Rattle.dep_statements.proofs.Members.{has_mapped, mapped_from, permuted_from, filter_again}
+use Rattle.dep_tables.specs.Rowids.{IsOrdered}
+use Rattle.dep_tables.proofs.Sorted.{same_lists}
+use Rattle.dep_tables.proofs.Members.{has_mapped, mapped_from, permuted_from, filter_again}
 
 -- two tables with the same rows are one
 pub same_rows : (xs ys : List Row) → IsTable xs → IsTable ys → ((r : Row) → Has xs r → Has ys r) → ((r : Row) → Has ys r → Has xs r) → xs ≡ ys

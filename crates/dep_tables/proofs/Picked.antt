@@ -18,10 +18,10 @@ use Rattle.sqlite_exec.proofs.PartitionLemmas.{ascending_from_sorted, sorted_fro
 use Rattle.sqlite_trees.proofs.ListLemmas.{all-map}
 use Rattle.sqlite_rules.specs.Lists.{Has}
 use Rattle.sqlite_rules.proofs.ListLemmas.{all_has, all_from}
-use Rattle.dep_statements.proofs.Members.{mapped_from, permuted_from}
-use Rattle.dep_statements.specs.Query.{one_table, no_limit, rising}
-use Rattle.dep_statements.proofs.Asking.{PicksBy, Picks}
-use Rattle.dep_statements.proofs.Sorted.{short_permutation, sorted_is}
+use Rattle.dep_tables.proofs.Members.{mapped_from, permuted_from}
+use Rattle.dep_tables.specs.Query.{one_table, no_limit, rising}
+use Rattle.dep_tables.proofs.Asking.{PicksBy, Picks}
+use Rattle.dep_tables.proofs.Sorted.{short_permutation, sorted_is}
 
 pub drop-none : {X : Type 0} (xs : List X) → drop 0 xs ≡ xs
 drop-none [] = refl

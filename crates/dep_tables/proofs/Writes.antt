@@ -25,7 +25,7 @@ use Rattle.sqlite.proofs.Callers.{one_step}
 use Rattle.sqlite.specs.Schema.{Schema}
 use Rattle.sqlite_schema.specs.declared.schema.Column.{Column}
 use Rattle.sqlite_value.specs.declared.keys.Order.{Order}
-use Rattle.dep_statements.specs.Tables.{plain_table}
+use Rattle.dep_tables.specs.PlainTables.{plain_table}
 
 -- a part that gave a value did not stop on the way
 pub went : {B E R : Type 0} {b : B} {Stops : E → Type 0} → ((stop : E) × Stops stop × (Ok b ≡ Err stop)) ⊎ R → R

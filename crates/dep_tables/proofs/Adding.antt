@@ -18,8 +18,8 @@ use Rattle.sqlite_schema.specs.Names.{same_name}
 use Rattle.sqlite_resolve.specs.declared.compiled.Compiled.{Compiled}
 use Rattle.sqlite_resolve.specs.Compile.{table_defined_by}
 use Rattle.sqlite_catalog.specs.Change.{created, next_tree, past_views, is_used, automatics, KeepsRows}
-use Rattle.dep_statements.proofs.Writes.{went, same_value}
-use Rattle.dep_statements.specs.Adding.{HasCounters, AreFreeFor, created_all, Adds, AddsAll}
+use Rattle.dep_tables.proofs.Writes.{went, same_value}
+use Rattle.dep_tables.specs.Adding.{HasCounters, AreFreeFor, created_all, Adds, AddsAll}
 
 -- ---- names
 

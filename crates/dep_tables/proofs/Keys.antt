@@ -13,8 +13,8 @@ use Rattle.sqlite_trees.proofs.TreeLemmas.{later_rowids}
 use Rattle.sqlite_trees.proofs.ListLemmas.{filter_none}
 use Rattle.sqlite_rules.specs.Lists.{Has}
 use Rattle.sqlite_rules.proofs.ListLemmas.{all_has, all_from}
-use Rattle.dep_statements.specs.Rows.{IsOrdered, replaced}
-use Rattle.dep_statements.proofs.Members.{map_same}
+use Rattle.dep_tables.specs.Rowids.{IsOrdered, replaced}
+use Rattle.dep_tables.proofs.Members.{map_same}
 
 tied_numbers : (m n : ℤ) → is_eq (int_cmp m n) ≡ true → m ≡ n
 tied_numbers m n h = grind (arith, ints, nat_tests)

@@ -19,10 +19,10 @@ use Rattle.sqlite_value.specs.declared.keys.Order.{Order}
 use Rattle.sqlite_rules.specs.Edit.{Edit, edit_of, Applies}
 use Rattle.sqlite_rules.specs.Action.{works}
 use Rattle.sqlite_rules.specs.Calls.{ids_of}
-use Rattle.dep_statements.specs.Tables.{plain_table}
-use Rattle.dep_statements.specs.Query.{one_table, plainly, passes_tests}
-use Rattle.dep_statements.proofs.Writes.{inserts, updates, deletes}
-use Rattle.dep_statements.proofs.Asking.{Picks, answers}
+use Rattle.dep_tables.specs.PlainTables.{plain_table}
+use Rattle.dep_tables.specs.Query.{one_table, plainly, passes_tests}
+use Rattle.dep_tables.proofs.Writes.{inserts, updates, deletes}
+use Rattle.dep_tables.proofs.Asking.{Picks, answers}
 
 -- the transaction goes on with this edit
 pub record Wrote (schema : Schema) (old new : State) (edit : Edit) : Type 0 where

@@ -5,7 +5,7 @@ use Rattle.sqlite.specs.Order.{Row}
 use Rattle.sqlite.specs.Table.{Table}
 use Rattle.sqlite.specs.Tree.{Trees}
 use Rattle.sqlite_trees.specs.Tree.{with_tree}
-use Rattle.dep_statements.specs.Rows.{IsOrdered, AreOrdered}
+use Rattle.dep_tables.specs.Rowids.{IsOrdered, AreOrdered}
 
 module _ (old new : Trees) (tree : ℕ) where
   -- what a tree has afterwards
