@@ -22,7 +22,7 @@ use Rattle.dep_answers.specs.declared.read_set.ReadSet.{ReadSet}
 use Rattle.dep_answers.specs.declared.read_set.ReadSet.TheVariants as read_set
 use Rattle.dep_answers.specs.declared.read_set.Shown.{Shown}
 use Rattle.dep_answers.specs.declared.read_set.Shown.TheVariants as shown
-use Rattle.dep_changes.specs.Known.{known_shown, known_read_set}
+use Rattle.dep_requests.specs.Known.{known_shown, known_read_set}
 use Rattle.dep_requests.specs.Performing.{known_at, known_by}
 
 -- ---- what a request shows that asks for this, where it deletes nothing

@@ -1,3 +1,15 @@
+pub mod Steps
+pub mod Staged
+pub mod Added
+pub mod Assembled
+pub mod SeenWhole
+pub mod Filled
+pub mod Accepted
+pub mod Carried
+pub mod Appended
+pub mod NewObject
+pub mod KnownShown
+pub mod OneSize
 pub mod Stepping
 pub mod LookingUp
 pub mod Known

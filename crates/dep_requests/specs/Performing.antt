@@ -36,7 +36,7 @@ use Rattle.dep_operations.specs.declared.ruling.Ruling.{Ruling}
 use Rattle.dep_operations.specs.declared.ruling.Ruling.TheVariants.{Do, Refuse}
 use Rattle.dep_views.specs.Seen.{loaded_undigested, loaded_view, loaded_with_digests, touched_payload}
 use Rattle.dep_views.specs.declared.view.LoadedView.{LoadedView}
-use Rattle.dep_changes.specs.Known.{known_shown}
+use Rattle.dep_requests.specs.Known.{known_shown}
 use Rattle.dep_requests.specs.declared.performing.Done.{Done}
 use Rattle.dep_requests.specs.declared.performing.Ruled.{Ruled}
 

@@ -6,9 +6,9 @@ use Rattle.dep_row_maps.specs.Clauses.{SeesState}
 use Rattle.dep_row_maps.proofs.Changing.{changes_err, changes_ok, changes_put, changes_then}
 use Rattle.dep_decisions.specs.Effects.{effect}
 use Rattle.dep_decisions.proofs.Accepted.{effect_sound}
-use Rattle.dep_changes.specs.Reported.{IsAccepted}
-use Rattle.dep_changes.proofs.Carried.{request_made}
-use Rattle.dep_changes.proofs.KnownShown.{has_known}
+use Rattle.dep_requests.specs.Reported.{IsAccepted}
+use Rattle.dep_requests.proofs.Carried.{request_made}
+use Rattle.dep_requests.proofs.KnownShown.{has_known}
 use Rattle.dep_objects.specs.Objects.{HasRow}
 use Rattle.dep_requests.proofs.Known.{known_shown_by}
 use Rattle.dep_requests.proofs.Stepping.{changes_still, left_alone, next_after, reads_alone, row_known_shown, shown_after}

@@ -1,4 +1,0 @@
-pub mod Reported
-pub mod Changed
-pub mod Clauses
-pub mod Known
