@@ -36,7 +36,7 @@ use Rattle.dep_tables.specs.Adding.{HasCounters, AddsAll, Puts}
 use Rattle.dep_tables.specs.Rowids.{IsOrdered}
 use Rattle.dep_tables.proofs.Adding.{AllMade, made_all, free_all, trees_for}
 use Rattle.dep_tables.proofs.Values.{cast_int, cast_null}
-use Rattle.dep_tables.proofs.Statements.{inserted}
+use Rattle.dep_tables.proofs.OneStatement.{inserted}
 use Rattle.dep_tables.proofs.Results.{ok_then}
 use Rattle.dep_tables.specs.Schema.{our_schema, our_tables, format_table, state_table, files_index, uploads_index}
 use Rattle.dep_migrations.specs.Texts.{add_format_text, add_state_text}

@@ -21,7 +21,7 @@ use Rattle.sqlite.proofs.Callers.{IsPlain, command_of, one_permutation}
 use Rattle.dep_tables.specs.Query.{one_table, plainly, no_limit, passes_tests}
 use Rattle.dep_tables.proofs.Picked.{shown_of, in_any_order}
 use Rattle.dep_tables.proofs.Asked.{store_only, shown_unchanged, unread, unread_as, understood_asks}
-use Rattle.dep_tables.proofs.Statements.{selected}
+use Rattle.dep_tables.proofs.OneStatement.{selected}
 use Rattle.dep_tables.specs.Schema.{our_schema, older_schema}
 use Rattle.dep_schema.specs.Texts.{find_format_text}
 use Rattle.sqlite.specs.Tree.{Trees}

@@ -28,7 +28,7 @@ use Rattle.dep_tables.proofs.Asking.{Picks}
 use Rattle.dep_tables.proofs.Picked.{shown_of, in_any_order}
 use Rattle.dep_tables.proofs.Edits.{key_of, left_rows, changed_rows, changed_ordered}
 use Rattle.dep_tables.proofs.Keys.{row_key, replaces}
-use Rattle.dep_tables.proofs.Statements.{Wrote}
+use Rattle.dep_tables.proofs.OneStatement.{Wrote}
 
 -- the transaction goes on with these rows in this table, and the other tables keep theirs
 pub record Made (schema : Schema) (old new : State) (tree : ℕ) (rows : List Row) : Type 0 where

@@ -21,7 +21,7 @@ use Rattle.dep_tables.specs.Rowids.{IsOrdered, InOrder, IsFirst}
 use Rattle.dep_tables.proofs.Asking.{Picks, answers}
 use Rattle.dep_tables.proofs.Picked.{shown_of, by_rowid, in_any_order, in_order, drop-none}
 use Rattle.dep_tables.proofs.Looking.{by_key, by_next, by_order, same_filter}
-use Rattle.dep_tables.proofs.Statements.{selected}
+use Rattle.dep_tables.proofs.OneStatement.{selected}
 
 abbrev pub first_only : Term
 first_only = lit (Int (pos 1))

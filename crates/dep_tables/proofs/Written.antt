@@ -32,7 +32,7 @@ use Rattle.sqlite_rules.proofs.TableLemmas.{put_all_adds}
 use Rattle.dep_tables.specs.PlainTables.{plain_table}
 use Rattle.dep_tables.specs.Query.{one_table, plainly, no_limit, passes_tests}
 use Rattle.dep_tables.specs.Rowids.{IsOrdered, row_at, replaced, put_next}
-use Rattle.dep_tables.proofs.Statements.{inserted, updated, deleted}
+use Rattle.dep_tables.proofs.OneStatement.{inserted, updated, deleted}
 use Rattle.dep_tables.proofs.RowsLeft.{Made, same_made, changed_by, puts, takes, changes, replaces_row}
 use Rattle.dep_tables.proofs.Looking.{without_key, without_passing}
 use Rattle.dep_tables.proofs.Found.{not_there}
