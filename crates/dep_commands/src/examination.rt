@@ -10,8 +10,8 @@ ghost use Rattle.dep_commands.specs.Examinations.{AuditsDatabase, ExportsDatabas
 use crate::exporting::export_object;
 use crate::reporting::audit_all;
 use dep_bag::BagSource;
-use dep_schema::Watch;
 use dep_program::{Folder, FolderSink, Outcome, without_folder};
+use dep_schema::Watch;
 use dep_store::Store;
 use dep_types::Outlet;
 use sqlite::{Alter, Connection};

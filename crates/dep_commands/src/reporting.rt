@@ -8,8 +8,8 @@ ghost use Rattle.dep_commands.specs.Reporting.{ReportsObjects, WritesReport, Wri
 use crate::audit_fault::AuditFault;
 use crate::lines::{write_audit, write_count};
 use crate::tally::Tally;
-use dep_schema::Watch;
 use dep_program::Outcome;
+use dep_schema::Watch;
 use dep_store::Store;
 use dep_types::Outlet;
 use sqlite::Alter;

@@ -6,8 +6,8 @@ ghost use Rattle.dep_program.specs.Setup.{program_config, base_at};
 ghost use Rattle.dep_commands.specs.Databases.{ServesDatabase};
 
 use crate::starting::{close_hub, open_hub};
-use dep_schema::Watch;
 use dep_program::{ListenOptions, Outcome, configuration_at, serve_at};
+use dep_schema::Watch;
 use sqlite::{Alter, Connection};
 
 /// Opens the store in the database, serves so many connections of 127.0.0.1 at the port, one after another, and hands

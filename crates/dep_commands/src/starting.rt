@@ -12,10 +12,9 @@ ghost use Rattle.dep_hub.specs.Representing.{RepresentsAfter, IsClean, IsHonest}
 ghost use Rattle.dep_store.specs.HashingStores.{condition_with_hashes};
 
 use dep_exchange::Archive;
-use dep_schema::Watch;
 use dep_hub::{Hub, HubFault};
 use dep_program::Outcome;
-use dep_schema::OpenFault;
+use dep_schema::{OpenFault, Watch};
 use dep_store::{HashingStore, Store};
 use dep_types::{Config, ConfigFault};
 use sqlite::{Alter, Connection};

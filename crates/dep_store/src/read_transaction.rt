@@ -11,9 +11,9 @@ ghost use Rattle.dep_store.specs.ReadTransactions.{GivesBack, ReportsFrom, Reads
 use dep_decisions::Operation;
 use dep_files::find_file;
 use dep_requests::hash_for;
-use dep_transactions::{Lent, check_open};
 use dep_staging::{RunningHashes, hash_ahead, next_bytes};
 use dep_tables::Statements;
+use dep_transactions::{Lent, check_open};
 use dep_types::{Config, FileRow, StoreFault};
 use sqlite::{Alter, Connection};
 use std::alloc::Global;

@@ -7,8 +7,8 @@ ghost use Rattle.dep_store.specs.Shut.{StoreSendsFile};
 
 use dep_answers::StoredFile;
 use dep_schema::{stream_blocks, stream_content};
-use dep_transactions::check_open;
 use dep_tables::BlockOwner;
+use dep_transactions::check_open;
 use dep_types::{Outlet, StreamFault};
 use sqlite::{Alter, Connection};
 

@@ -4,8 +4,8 @@ ghost use Rattle.sqlite.specs.Held.{state};
 ghost use Rattle.dep_tables.specs.Tables.{Tables};
 ghost use Rattle.dep_store.specs.Tasks.{MakesTables, TransactsIfOpen};
 
-use dep_transactions::{Lent, commit};
 use dep_tables::Statements;
+use dep_transactions::{Lent, commit};
 use dep_types::StoreFault;
 use sqlite::{Alter, Connection};
 
