@@ -12,5 +12,5 @@ pub mod KnownShown
 pub mod OneSize
 pub mod Stepping
 pub mod LookingUp
-pub mod Known
+pub mod KnownReplies
 pub mod CacheLemmas

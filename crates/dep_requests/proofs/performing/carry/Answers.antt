@@ -10,7 +10,7 @@ use Rattle.dep_requests.specs.Reported.{IsAccepted}
 use Rattle.dep_requests.proofs.Carried.{request_made}
 use Rattle.dep_requests.proofs.KnownShown.{has_known}
 use Rattle.dep_objects.specs.Objects.{HasRow}
-use Rattle.dep_requests.proofs.Known.{known_shown_by}
+use Rattle.dep_requests.proofs.KnownReplies.{known_shown_by}
 use Rattle.dep_requests.proofs.Stepping.{changes_still, left_alone, next_after, reads_alone, row_known_shown, shown_after}
 use Rattle.dep_requests.proofs.performing.carry.Goals as goal
 

@@ -2,7 +2,7 @@ use Rattle.std.proofs.Common.{◌≡◌, IfOk, Option, ap, subst, sym}
 use Rattle.dep_types.specs.declared.target.Method.{Method}
 use Rattle.dep_answers.specs.declared.read_set.Shown.{Shown}
 use Rattle.dep_requests.specs.Performing.{known_at}
-use Rattle.dep_requests.proofs.Known.{not_deleted}
+use Rattle.dep_requests.proofs.KnownReplies.{not_deleted}
 use Rattle.dep_requests.proofs.performing.known_by.Goals as goal
 
 pub returns-in-Delete : goal.returns-in-Delete
