@@ -21,7 +21,7 @@ use Rattle.dep_exchange.specs.Records.{World, Record, Run, begins, stops, stoppe
 use Rattle.dep_hub.specs.Representing.{RepresentsAfter, IsClean, IsHonest}
 use Rattle.dep_hub.specs.declared.faults.HubFault.TheVariants as refused
 use Rattle.dep_hub.specs.declared.hub.Hub.{Hub}
-use Rattle.dep_program.specs.Serves.{all_records_of, ServesAt}
+use Rattle.dep_commands.specs.Serves.{all_records_of, ServesAt}
 use Rattle.dep_program.specs.declared.outcome.Outcome.{Outcome}
 use Rattle.dep_commands.specs.Databases.{IsKeptAsStore, LedTo, ServiceGoesOn, ServesDatabase, serves, not_bound, unchecked, left_alone, not_begun, not_opened}
 use Rattle.dep_commands.proofs.ReplayLemmas.{world_at_first}

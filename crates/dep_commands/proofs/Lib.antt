@@ -1,3 +1,4 @@
+pub mod ServeLemmas
 mod ReservedLemmas
 pub mod ReportLemmas
 pub mod LineLemmas

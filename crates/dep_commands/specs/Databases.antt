@@ -11,7 +11,7 @@ use Rattle.dep_transactions.specs.States.{StoreRepresents, IsLeftAs, DatabaseLea
 use Rattle.dep_store.specs.Migrating.{KeepsDatabase, OpenLeaves}
 use Rattle.dep_exchange.specs.Records.{World, Record, Run, first_world, stopped}
 use Rattle.dep_connection.specs.Turns.{ArePieces}
-use Rattle.dep_program.specs.Serves.{Conversation, all_records_of, AreServed}
+use Rattle.dep_commands.specs.Serves.{Conversation, all_records_of, AreServed}
 use Rattle.dep_program.specs.declared.outcome.Outcome.{Outcome}
 use Rattle.dep_program.specs.declared.outcome.Outcome.TheVariants.{Usage, StoreFault, TransferFault}
 

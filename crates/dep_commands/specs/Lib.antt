@@ -1,3 +1,5 @@
+pub mod Addresses
+pub mod Serves
 pub mod Exports
 pub mod Audits
 pub mod Reporting

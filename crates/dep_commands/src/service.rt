@@ -5,8 +5,9 @@ ghost use Rattle.sqlite.specs.State.{HasCleanDisk};
 ghost use Rattle.dep_program.specs.Setup.{program_config, base_at};
 ghost use Rattle.dep_commands.specs.Databases.{ServesDatabase};
 
+use crate::listening::serve_at;
 use crate::starting::{close_hub, open_hub};
-use dep_program::{ListenOptions, Outcome, configuration_at, serve_at};
+use dep_program::{ListenOptions, Outcome, configuration_at};
 use dep_schema::Watch;
 use sqlite::{Alter, Connection};
 

@@ -1,3 +1,2 @@
-pub mod ServeLemmas
 pub mod GatheredLemmas
 pub mod CommandLemmas

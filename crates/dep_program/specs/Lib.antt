@@ -3,7 +3,5 @@ pub mod Commands
 pub mod HostCommands
 pub mod Folders
 pub mod Clock
-pub mod Addresses
-pub mod Serves
 pub mod Outcomes
 pub mod Gathering

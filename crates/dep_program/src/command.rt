@@ -3,7 +3,6 @@ ghost use Rattle.std.specs.Prelude.{◌≡◌, map, string_bytes, option_map};
 ghost use Rattle.dep_octets.specs.Octets.{decimal_number, value_of};
 ghost use Rattle.dep_program.specs.Commands.{asked_in, asked_of, replay_of, serve_of, export_of, audit_of, from_one, unread_outcome};
 
-use crate::listening::ListenOptions;
 use crate::outcome::Outcome;
 use dep_octets::{Number, decimal, positive_decimal};
 use dep_types::GREATEST_NUMBER;
@@ -17,6 +16,15 @@ pub enum Command<'a> {
     Replay { moment: u64, base: &'a str },
     /// The job over the store in the file.
     WorkOn { file: &'a str, job: Job<'a> },
+}
+
+/// Where connections come from, and how many.
+#[derive(Clone, Copy)]
+pub struct ListenOptions {
+    /// The port, of 127.0.0.1.
+    pub port: u16,
+    /// How many connections are served.
+    pub count: u64,
 }
 
 /// What is done with the store in a file.

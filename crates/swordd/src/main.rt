@@ -3,8 +3,8 @@
 #![tactic(auto)]
 
 use dep_application::{is_called_host, run_command, run_host};
-pub use dep_commands::{audit_all, export_object, replay, replay_gathered};
-pub use dep_program::{Outcome, serve_on};
+pub use dep_commands::{audit_all, export_object, replay, replay_gathered, serve_on};
+pub use dep_program::Outcome;
 use std::process::ExitCode;
 
 /// Runs the program that it was called as, and exits with the status of how that ended.

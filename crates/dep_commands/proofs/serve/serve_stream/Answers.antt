@@ -1,6 +1,6 @@
 use Rattle.std.proofs.Common.{refl}
-use Rattle.dep_program.proofs.ServeLemmas.{over_socket, not_served}
-use Rattle.dep_program.proofs.serve.serve_stream.Goals as goal
+use Rattle.dep_commands.proofs.ServeLemmas.{over_socket, not_served}
+use Rattle.dep_commands.proofs.serve.serve_stream.Goals as goal
 
 pub returns-clause-one : goal.returns-clause-one
 returns-clause-one g c =

@@ -1,25 +1,15 @@
 //! A port of 127.0.0.1.
 ghost use Rattle.std.specs.Prelude.{◌≡◌};
 ghost use Rattle.dep_hub.specs.Representing.{IsClean, IsHonest};
-ghost use Rattle.dep_program.specs.Addresses.{IsLocal};
-ghost use Rattle.dep_program.specs.Serves.{ServesAt};
+ghost use Rattle.dep_commands.specs.Addresses.{IsLocal};
+ghost use Rattle.dep_commands.specs.Serves.{ServesAt};
 
-use crate::clock::moment_of;
-use crate::outcome::Outcome;
 use crate::serve::serve_on;
 use dep_hub::{Archive, Hub};
+use dep_program::{ListenOptions, Outcome, moment_of};
 use std::alloc::Global;
 use std::net::{IpAddr, Ipv4Addr, Net, SocketAddr, TcpListener, TcpStream};
 use std::time::{Clock, SystemTime};
-
-/// Where connections come from, and how many.
-#[derive(Clone, Copy)]
-pub struct ListenOptions {
-    /// The port, of 127.0.0.1.
-    pub port: u16,
-    /// How many connections are served.
-    pub count: u64,
-}
 
 /// The address of a port of 127.0.0.1.
 pub fn address(port: u16) -> SocketAddr

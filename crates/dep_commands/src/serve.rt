@@ -1,12 +1,11 @@
 //! Connections over sockets, one after another.
 ghost use Rattle.dep_hub.specs.Representing.{ServesAs};
-ghost use Rattle.dep_program.specs.Serves.{ServesAtClock, ServesOne};
+ghost use Rattle.dep_commands.specs.Serves.{ServesAtClock, ServesOne};
 
-use crate::gathered::Gathered;
-use crate::outcome::Outcome;
 use dep_connection::{Served, serve_connection};
 use dep_hub::{Archive, Hub};
 use dep_moment::Moment;
+use dep_program::{Gathered, Outcome};
 use dep_types::ReaderInlet;
 use std::alloc::Global;
 use std::net::{TcpListener, TcpStream};

@@ -14,7 +14,7 @@ use Rattle.dep_connection.specs.declared.connection.Served.TheVariants.{Ended, C
 use Rattle.dep_hub.specs.declared.hub.Hub.{Hub}
 use Rattle.dep_connection.proofs.TalkLemmas.{unserved, converses_wider}
 use Rattle.dep_exchange.proofs.Leaving.{Settles, stays_as}
-use Rattle.dep_program.specs.Serves.{ServesOne, socket_out, socket_wire, AnyOut, Conversation, AreAmong, ServesThese, all_records_of, all_turns_of}
+use Rattle.dep_commands.specs.Serves.{ServesOne, socket_out, socket_wire, AnyOut, Conversation, AreAmong, ServesThese, all_records_of, all_turns_of}
 
 -- one list of steps behind another
 folds_join : {C A : Type 0} (r : C → A → C → Type 0) (a : C) (xs ys : List A) (b c : C) → FoldsTo r a xs b → FoldsTo r b ys c → FoldsTo r a (xs ++ ys) c

@@ -1,6 +1,6 @@
 use Rattle.std.proofs.Common.{◌≡◌, inl, inr, refl, arith}
-use Rattle.dep_program.proofs.ServeLemmas.{none_served, one_served, so_many, serves_then}
-use Rattle.dep_program.proofs.serve.serve_on.Goals as goal
+use Rattle.dep_commands.proofs.ServeLemmas.{none_served, one_served, so_many, serves_then}
+use Rattle.dep_commands.proofs.serve.serve_on.Goals as goal
 
 pub loop-init : goal.loop-init
 loop-init g c = record { call = c.requires; goes = record { config = refl; clean = λ h. h; honest = λ h. h }; served = none_served _ _ _ _ }

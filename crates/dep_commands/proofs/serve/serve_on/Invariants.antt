@@ -1,6 +1,6 @@
 use Rattle.dep_hub.specs.Representing.{ServesAs}
-use Rattle.dep_program.proofs.ServeLemmas.{ProgressLine}
-use Rattle.dep_program.proofs.serve.serve_on.Given as goal
+use Rattle.dep_commands.proofs.ServeLemmas.{ProgressLine}
+use Rattle.dep_commands.proofs.serve.serve_on.Given as goal
 
 abbrev pub invariant-loop : goal.invariant-loop
 invariant-loop g l = record {
