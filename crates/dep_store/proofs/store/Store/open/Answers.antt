@@ -2,7 +2,7 @@ use Rattle.std.proofs.Common.{◌≡◌, ℕ, inl, inr, refl, sym, subst, ◌∙
 use Rattle.sqlite.specs.Held.{state}
 use Rattle.sqlite.proofs.StateLemmas.{clean_if_open}
 use Rattle.dep_store.proofs.Migrated.{ok_states, err_states}
-use Rattle.dep_schema.proofs.Refusing.{clean_last}
+use Rattle.dep_transactions.proofs.Transactions.{clean_last}
 use Rattle.dep_tables.specs.Schema.{our_schema, older_schema}
 use Rattle.dep_tables.specs.Versions.{our_version, HasVersion}
 use Rattle.dep_store.proofs.Opened.{opened_stood, first_means, leaves_migrated, leaves_opened, is_openable, stood_back}
