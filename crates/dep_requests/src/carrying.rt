@@ -26,7 +26,7 @@ use std::alloc::Global;
 /// Nothing is hashed: the digests of a posted content stand in the decision, and those of uploads in the view. A number
 /// of 2^63 or more is a fault of the store, and so is that something is not there which the rules have seen. Where
 /// nothing is changed, no statement is run.
-pub(crate) fn carry_out<T: Statements>(
+pub fn carry_out<T: Statements>(
     tx: &mut T,
     alloc: Global,
     view: &View,

@@ -21,7 +21,7 @@ use std::alloc::Global;
 /// What the reply shows of what was decided, once it is carried out, where all of that is known: an object that is made or
 /// replaced, the row of one whose metadata or files are put in their place, and that of a file. No statement is run: rows,
 /// numbers and digests stand in the view and in the decision. It fails for lack of memory alone.
-pub(crate) fn known_after(
+pub fn known_after(
     alloc: Global,
     view: &View,
     decision: &Decision,
@@ -65,7 +65,7 @@ pub(crate) fn known_after(
 
 /// The row of the object that is touched, once what was decided is carried out, where it is known: of an object that is only
 /// shown, that is added to, or that becomes ingested. No statement is run.
-pub(crate) fn row_after(view: &View, decision: &Decision) -> Option<ObjectRow>
+pub fn row_after(view: &View, decision: &Decision) -> Option<ObjectRow>
     ensures { (s : State) (content : List ℕ) → IsAccepted s view.now content decision.now
         → result ≡ known_row s content view.now decision.now }
 {

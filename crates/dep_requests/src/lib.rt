@@ -16,5 +16,8 @@ mod showing;
 mod uploads;
 
 pub use caching::{Cache, cached, clock_still, read_still, still_known};
+pub use carrying::carry_out;
+pub use known::{known_after, row_after};
+pub use new_files::copied_behalf;
 pub use performing::{Done, accept, answer_operation, delivery_at, hash_for};
 pub use showing::{file_shown, is_plain_read, show_service};

@@ -47,7 +47,7 @@ struct Extent {
 }
 
 /// A copy of the name of the person on whose behalf a file is deposited, if it is on anyone's.
-pub(crate) fn copied_behalf(
+pub fn copied_behalf(
     alloc: Global,
     behalf: &Option<Text>,
 ) -> Result<Option<Text>, AllocError>
