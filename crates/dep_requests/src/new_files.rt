@@ -47,10 +47,7 @@ struct Extent {
 }
 
 /// A copy of the name of the person on whose behalf a file is deposited, if it is on anyone's.
-pub fn copied_behalf(
-    alloc: Global,
-    behalf: &Option<Text>,
-) -> Result<Option<Text>, AllocError>
+pub fn copied_behalf(alloc: Global, behalf: &Option<Text>) -> Result<Option<Text>, AllocError>
     ensures { IfOk result (λ copied. copied ≡ behalf.now) }
 {
     match behalf {
