@@ -12,9 +12,9 @@ use Rattle.dep_transactions.specs.States.{StoreRepresents}
 use Rattle.dep_schema.specs.declared.opening.OpenFault.{OpenFault}
 use Rattle.dep_transactions.proofs.Transacting.{IsSettled, leaves_as_was}
 use Rattle.dep_store.specs.Migrating.{KeepsDatabase}
-use Rattle.dep_commands.specs.Starting.{IsGivenOrStore, IsOpened, IsStore, OpeningLeaves, RefusesConfig, outcome_of_start}
-use Rattle.dep_commands.specs.declared.starting.StartFault.{StartFault}
-use Rattle.dep_commands.specs.declared.starting.StartFault.TheVariants as fault
+use Rattle.dep_application.specs.Starting.{IsGivenOrStore, IsOpened, IsStore, OpeningLeaves, RefusesConfig, outcome_of_start}
+use Rattle.dep_application.specs.declared.starting.StartFault.{StartFault}
+use Rattle.dep_application.specs.declared.starting.StartFault.TheVariants as fault
 use Rattle.dep_hub.specs.declared.faults.HubFault.TheVariants as refused_by
 use Rattle.dep_exchange.specs.Records.{Record, Run, stops, stopped, first_world}
 use Rattle.dep_exchange.specs.Records as records_of
@@ -27,7 +27,7 @@ use Rattle.dep_program.specs.declared.outcome.Outcome.{Outcome}
 use Rattle.dep_sockets.specs.Acceptors.{AcceptorState, EndsHub, WentOn}
 use Rattle.dep_application.specs.declared.host_log.StandardErrorLog.{StandardErrorLog}
 use Rattle.dep_configuration.specs.declared.configuration.ServerLimits.{ServerLimits}
-use Rattle.dep_commands.specs.Reserved.{reserved_call_log, reserved_condition}
+use Rattle.dep_application.specs.Reserved.{reserved_call_log, reserved_condition}
 use Rattle.dep_application.specs.Hosted.{HostStore, LedBy, IsHosted, HostsDatabase, hosts, host_limits, left_alone, not_checked, not_made, not_opened, unshown}
 
 module _ {S : Type 0} (g : Ghosts S) (clean : (h : Held S) → IsTrue (state g h).is_open → HasCleanDisk (state g h))

@@ -14,8 +14,8 @@ use Rattle.dep_store.specs.Migrating.{KeepsDatabase}
 use Rattle.dep_store.specs.declared.archive.HashingStore.{HashingStore}
 use Rattle.dep_commands.specs.declared.reserved_archive.ReservedArchive.{ReservedArchive}
 use Rattle.dep_application.specs.declared.logged_reserve.LoggedReserve.{LoggedReserve}
-use Rattle.dep_commands.specs.Starting.{IsOpened, OpeningLeaves}
-use Rattle.dep_commands.specs.Reserved.{reserved_call_log, reserved_condition}
+use Rattle.dep_application.specs.Starting.{IsOpened, OpeningLeaves}
+use Rattle.dep_application.specs.Reserved.{reserved_call_log, reserved_condition}
 use Rattle.dep_exchange.specs.ArchiveCalls.{CallLog}
 use Rattle.dep_exchange.specs.Records.{World, Record, Run, first_world, stopped}
 use Rattle.dep_hub.specs.declared.hub.Hub.{Hub}

@@ -6,8 +6,8 @@ use Rattle.dep_program.specs.Setup.{program_config, base_at}
 use Rattle.dep_program.specs.declared.command.Job.{Job}
 use Rattle.dep_program.specs.declared.command.Job.TheVariants.{Serve, Export, Audit}
 use Rattle.dep_program.specs.declared.outcome.Outcome.{Outcome}
-use Rattle.dep_commands.specs.Databases.{ServesDatabase}
-use Rattle.dep_commands.specs.Examinations.{AuditsDatabase, ExportsDatabase}
+use Rattle.dep_application.specs.Databases.{ServesDatabase}
+use Rattle.dep_application.specs.Examinations.{AuditsDatabase, ExportsDatabase}
 
 -- connections are served at the port, an object is exported, or all files are audited
 abbrev pub WorksOn : {S : Type 0} → (g : Ghosts S) → Job → (given back : Held S) → Outcome → Type 0

@@ -1,3 +1,9 @@
+pub mod Working
+pub mod Starting
+pub mod Reserved
+pub mod Replays
+pub mod Databases
+pub mod Examinations
 pub mod Jobs
 pub mod Hosted
 pub mod Called

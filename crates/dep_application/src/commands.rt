@@ -1,7 +1,7 @@
 //! What the words of `swordd` ask for.
 
+use crate::replaying::replay_gathered;
 use crate::store_file::work_on;
-use dep_commands::replay_gathered;
 use dep_moment::Moment;
 use dep_program::{Command, Gathered, Outcome, unread, words};
 use dep_types::ReaderInlet;

@@ -7,7 +7,9 @@ ghost use Rattle.dep_application.specs.Hosted.{HostsDatabase, IsEntranceOf, AreO
 
 use crate::host_log::StandardErrorLog;
 use crate::logged_reserve::LoggedReserve;
-use dep_commands::{DatabaseWork, Reserve, ReservedArchive, open_reserved_hub, work_on_file};
+use crate::reserved_hub::open_reserved_hub;
+use crate::working::{DatabaseWork, work_on_file};
+use dep_commands::{Reserve, ReservedArchive};
 use dep_configuration::{Configuration, ServerLimits};
 use dep_exchange::Archive;
 use dep_host::HostLog;

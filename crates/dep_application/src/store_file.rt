@@ -1,7 +1,9 @@
 //! What is done with the store in a file.
 
+use crate::examination::{audit_database, export_database};
 use crate::progress::Reported;
-use dep_commands::{DatabaseWork, audit_database, export_database, serve_database, work_on_file};
+use crate::service::serve_database;
+use crate::working::{DatabaseWork, work_on_file};
 use dep_program::{Job, Outcome, ProgressLine};
 use dep_types::Through;
 use sqlite::{Alter, Connection};

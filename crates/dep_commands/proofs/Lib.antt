@@ -1,9 +1,5 @@
-pub mod ServeLemmas
 mod ReservedLemmas
+pub mod ServeLemmas
 pub mod ReportLemmas
 pub mod LineLemmas
 pub mod Exported
-pub mod StartingLemmas
-pub mod ReplayLemmas
-pub mod DatabaseLemmas
-pub mod ExaminationLemmas

@@ -3,10 +3,4 @@ pub mod Serves
 pub mod Exports
 pub mod Audits
 pub mod Reporting
-pub mod Working
-pub mod Starting
 pub mod Reserving
-pub mod Reserved
-pub mod Replays
-pub mod Databases
-pub mod Examinations

@@ -1,6 +1,5 @@
-//! The audit of all files of a store.
+//! The audit of all files of a database.
 ghost use Rattle.std.specs.Prelude.{◌≡◌};
-ghost use Rattle.sqlite.specs.Held.{state};
 ghost use Rattle.dep_commands.specs.Audits.{Audits};
 ghost use Rattle.dep_store.specs.Staying.{KeepsTables};
 ghost use Rattle.dep_commands.specs.Reporting.{ReportsObjects, WritesReport, WritesOf, BlamesTransfer, outcome_of_fault};
@@ -10,23 +9,22 @@ use crate::lines::{write_audit, write_count};
 use crate::tally::Tally;
 use dep_program::Outcome;
 use dep_schema::Watch;
-use dep_store::Store;
+use dep_store::AuditSource;
 use dep_types::Outlet;
-use sqlite::Alter;
 use std::alloc::Global;
 
 /// Checks all files of all objects by both digests, in the order of the objects' numbers and then of the files'. It
 /// writes a line for each damaged one, once its object was checked, and at last a line of how many were checked and
 /// how many are damaged. The watch is told of each block that is read.
-pub fn audit_all<S: Alter, W: Outlet, P: Watch>(
+pub fn audit_all<S: AuditSource, W: Outlet, P: Watch>(
     alloc: Global,
-    store: &mut Store<S>,
+    store: &mut S,
     out: &mut W,
     watch: &mut P,
 ) -> Outcome
-    ensures writes { WritesOf (state S.Store store.old) (state S.Store store.new)
+    ensures writes { WritesOf (S.database store.old) (S.database store.new)
         (W.taken out.old) (W.taken out.new) (λ t written. Audits t written result) }
-    ensures stays { KeepsTables (state S.Store store.old) (state S.Store store.new) }
+    ensures stays { KeepsTables (S.database store.old) (S.database store.new) }
     ensures blames { BlamesTransfer (W.failures out.old) (W.failures out.new) result }
 {
     let tally = match report_objects(alloc, store, out, watch) {
@@ -51,13 +49,13 @@ fn outcome_of(fault: AuditFault) -> Outcome
 }
 
 // Writes the lines of all objects. It gives up where more are checked than 64 bits count.
-fn report_objects<S: Alter, W: Outlet, P: Watch>(
+fn report_objects<S: AuditSource, W: Outlet, P: Watch>(
     alloc: Global,
-    store: &mut Store<S>,
+    store: &mut S,
     out: &mut W,
     watch: &mut P,
 ) -> Result<Option<Tally>, AuditFault>
-    ensures { WritesReport (state S.Store store.old) (state S.Store store.new)
+    ensures { WritesReport (S.database store.old) (S.database store.new)
         W.taken W.failures out.old out.new result ReportsObjects }
 {
     let mut tally = Tally {

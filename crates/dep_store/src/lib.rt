@@ -3,6 +3,7 @@
 #![tactic(auto)]
 
 mod archive;
+mod audit_source;
 mod caching;
 mod log_copy;
 mod migrating;
@@ -16,5 +17,6 @@ mod tasks;
 mod ticking;
 
 pub use archive::HashingStore;
+pub use audit_source::AuditSource;
 pub use dep_schema::{Unwatched, Watch};
 pub use store::Store;

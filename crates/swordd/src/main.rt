@@ -2,8 +2,9 @@
 //! connections at once.
 #![tactic(auto)]
 
+pub use dep_application::{replay, replay_gathered};
 use dep_application::{is_called_host, run_command, run_host};
-pub use dep_commands::{audit_all, export_object, replay, replay_gathered, serve_on};
+pub use dep_commands::{audit_all, export_object, serve_on};
 pub use dep_program::Outcome;
 use std::process::ExitCode;
 

@@ -1,6 +1,5 @@
 use Rattle.std.proofs.Common.{◌++◌, [], Err, inl, refl, subst, ◌∙◌, arith}
 use Rattle.std.proofs.KnownBytes.{Appends-nil, Appends-trans}
-use Rattle.sqlite.specs.Held.{state}
 use Rattle.dep_tables.specs.Edits.{IsObjectAfter}
 use Rattle.dep_commands.specs.declared.tally.Tally.{Tally}
 use Rattle.dep_commands.specs.declared.audit_fault.AuditFault.TheVariants.{Store}
@@ -21,7 +20,7 @@ returns-in_default g c =
       );
       stays =
           let inv = c.objects.invariant in
-          keeps_then (state g.S.Store c.args.store.now) (state g.S.Store c.objects.store) (state g.S.Store c.next_object.new.self) inv.kept inv.stays (reports_keeps (state g.S.Store c.objects.store) (state g.S.Store c.next_object.new.self) _ _ c.in_ok-object.ensures.rows);
+          keeps_then (g.S.AuditSource.database c.args.store.now) (g.S.AuditSource.database c.objects.store) (g.S.AuditSource.database c.next_object.new.self) inv.kept inv.stays (reports_keeps (g.S.AuditSource.database c.objects.store) (g.S.AuditSource.database c.next_object.new.self) _ _ c.in_ok-object.ensures.rows);
       blames = blame_none _ _ _ c.objects.invariant.count (λ is. cc is);
     }
 
@@ -37,7 +36,7 @@ returns-in_err-audit g c =
         λ clean t at. begun_fails t inv.writes.0 (reported_so_far t c.objects.after inv.writes.0 c.objects.tally (inv.writes.2 (rows.honest (does.honest clean)) t at).0)
             _ c.from_residual-in_err-audit.result c.from_residual-in_err-audit.ensures.1,
       );
-      stays = keeps_then (state g.S.Store c.args.store.now) (state g.S.Store c.next_object.new.self) (state g.S.Store c.audit.new.self) (λ clean t at. (rows.ok clean t (inv.kept (rows.honest clean) t at)).1) (keeps_then (state g.S.Store c.args.store.now) (state g.S.Store c.objects.store) (state g.S.Store c.next_object.new.self) inv.kept inv.stays (reports_keeps (state g.S.Store c.objects.store) (state g.S.Store c.next_object.new.self) _ _ rows)) (reports_keeps (state g.S.Store c.next_object.new.self) (state g.S.Store c.audit.new.self) _ _ does);
+      stays = keeps_then (g.S.AuditSource.database c.args.store.now) (g.S.AuditSource.database c.next_object.new.self) (g.S.AuditSource.database c.audit.new.self) (λ clean t at. (rows.ok clean t (inv.kept (rows.honest clean) t at)).1) (keeps_then (g.S.AuditSource.database c.args.store.now) (g.S.AuditSource.database c.objects.store) (g.S.AuditSource.database c.next_object.new.self) inv.kept inv.stays (reports_keeps (g.S.AuditSource.database c.objects.store) (g.S.AuditSource.database c.next_object.new.self) _ _ rows)) (reports_keeps (g.S.AuditSource.database c.next_object.new.self) (g.S.AuditSource.database c.audit.new.self) _ _ does);
       blames = blame_passed {X = Tally} _ _ _ inv.count Store (blame_none _ _ (Err Store) refl (λ is. cc is)) c.from_residual-in_err-audit.result c.from_residual-in_err-audit.ensures.1;
     }
 
@@ -60,7 +59,7 @@ returns-in_err-more g c =
       stays =
           let inv = c.objects.invariant in
           let rows = c.in_ok-object.ensures.rows in
-          keeps_then (state g.S.Store c.args.store.now) (state g.S.Store c.next_object.new.self) (state g.S.Store c.audit.new.self) (λ clean t at. (rows.ok clean t (inv.kept (rows.honest clean) t at)).1) (keeps_then (state g.S.Store c.args.store.now) (state g.S.Store c.objects.store) (state g.S.Store c.next_object.new.self) inv.kept inv.stays (reports_keeps (state g.S.Store c.objects.store) (state g.S.Store c.next_object.new.self) _ _ rows)) (reports_keeps (state g.S.Store c.next_object.new.self) (state g.S.Store c.audit.new.self) _ _ does);
+          keeps_then (g.S.AuditSource.database c.args.store.now) (g.S.AuditSource.database c.next_object.new.self) (g.S.AuditSource.database c.audit.new.self) (λ clean t at. (rows.ok clean t (inv.kept (rows.honest clean) t at)).1) (keeps_then (g.S.AuditSource.database c.args.store.now) (g.S.AuditSource.database c.objects.store) (g.S.AuditSource.database c.next_object.new.self) inv.kept inv.stays (reports_keeps (g.S.AuditSource.database c.objects.store) (g.S.AuditSource.database c.next_object.new.self) _ _ rows)) (reports_keeps (g.S.AuditSource.database c.next_object.new.self) (g.S.AuditSource.database c.audit.new.self) _ _ does);
       blames = blame_passed _ _ _ c.objects.invariant.count c.in_err-more.field-0.0 c.in_err-more.ensures.blames c.from_residual-in_err-more.result c.from_residual-in_err-more.ensures.1;
     }
 
@@ -83,7 +82,7 @@ returns-in_default-plus g c =
       stays =
           let inv = c.objects.invariant in
           let rows = c.in_ok-object.ensures.rows in
-          keeps_then (state g.S.Store c.args.store.now) (state g.S.Store c.next_object.new.self) (state g.S.Store c.audit.new.self) (λ clean t at. (rows.ok clean t (inv.kept (rows.honest clean) t at)).1) (keeps_then (state g.S.Store c.args.store.now) (state g.S.Store c.objects.store) (state g.S.Store c.next_object.new.self) inv.kept inv.stays (reports_keeps (state g.S.Store c.objects.store) (state g.S.Store c.next_object.new.self) _ _ rows)) (reports_keeps (state g.S.Store c.next_object.new.self) (state g.S.Store c.audit.new.self) _ _ does);
+          keeps_then (g.S.AuditSource.database c.args.store.now) (g.S.AuditSource.database c.next_object.new.self) (g.S.AuditSource.database c.audit.new.self) (λ clean t at. (rows.ok clean t (inv.kept (rows.honest clean) t at)).1) (keeps_then (g.S.AuditSource.database c.args.store.now) (g.S.AuditSource.database c.objects.store) (g.S.AuditSource.database c.next_object.new.self) inv.kept inv.stays (reports_keeps (g.S.AuditSource.database c.objects.store) (g.S.AuditSource.database c.next_object.new.self) _ _ rows)) (reports_keeps (g.S.AuditSource.database c.next_object.new.self) (g.S.AuditSource.database c.audit.new.self) _ _ does);
       blames = blame_none _ _ _ (c.in_ok-more.ensures.blames.kept ∙ c.objects.invariant.count) (λ is. cc is);
     }
 
@@ -94,7 +93,7 @@ objects-preserved g c =
     let rows = c.in_ok-object.ensures.rows in
     let does = c.in_ok-audit.ensures.does in
     let more = c.in_ok-more.ensures.reports in record {
-      stays = keeps_then (state g.S.Store c.args.store.now) (state g.S.Store c.next_object.new.self) (state g.S.Store c.audit.new.self) (λ clean t at. (rows.ok clean t (inv.kept (rows.honest clean) t at)).1) (keeps_then (state g.S.Store c.args.store.now) (state g.S.Store c.objects.store) (state g.S.Store c.next_object.new.self) inv.kept inv.stays (reports_keeps (state g.S.Store c.objects.store) (state g.S.Store c.next_object.new.self) _ _ rows)) (reports_keeps (state g.S.Store c.next_object.new.self) (state g.S.Store c.audit.new.self) _ _ does);
+      stays = keeps_then (g.S.AuditSource.database c.args.store.now) (g.S.AuditSource.database c.next_object.new.self) (g.S.AuditSource.database c.audit.new.self) (λ clean t at. (rows.ok clean t (inv.kept (rows.honest clean) t at)).1) (keeps_then (g.S.AuditSource.database c.args.store.now) (g.S.AuditSource.database c.objects.store) (g.S.AuditSource.database c.next_object.new.self) inv.kept inv.stays (reports_keeps (g.S.AuditSource.database c.objects.store) (g.S.AuditSource.database c.next_object.new.self) _ _ rows)) (reports_keeps (g.S.AuditSource.database c.next_object.new.self) (g.S.AuditSource.database c.audit.new.self) _ _ does);
       kept = λ clean t at. let mid = does.honest clean in
           (does.ok clean t (rows.ok mid t (inv.kept (rows.honest mid) t at)).1).1;
       writes = (
@@ -114,7 +113,7 @@ objects-preserved g c =
 
 pub objects-init : goal.objects-init
 objects-init g c = record {
-  stays = keeps_still (state g.S.Store c.args.store.now) (λ is_open trees may. g.met.S.Store.settled c.args.store.now.store trees is_open may);
+  stays = keeps_still (g.S.AuditSource.database c.args.store.now) (λ is_open trees may. g.met.S.AuditSource.settled c.args.store.now trees is_open may);
   kept = λ clean t at. at;
   writes = ([], Appends-nil (g.W.Outlet.taken c.args.out.now), λ clean t at. reported_none t _ refl refl);
   count = refl;
@@ -131,7 +130,7 @@ returns-in_err-object g c =
       );
       stays =
           let inv = c.objects.invariant in
-          keeps_then (state g.S.Store c.args.store.now) (state g.S.Store c.objects.store) (state g.S.Store c.next_object.new.self) inv.kept inv.stays (reports_keeps (state g.S.Store c.objects.store) (state g.S.Store c.next_object.new.self) _ _ c.in_err-object.ensures.rows);
+          keeps_then (g.S.AuditSource.database c.args.store.now) (g.S.AuditSource.database c.objects.store) (g.S.AuditSource.database c.next_object.new.self) inv.kept inv.stays (reports_keeps (g.S.AuditSource.database c.objects.store) (g.S.AuditSource.database c.next_object.new.self) _ _ c.in_err-object.ensures.rows);
       blames = blame_passed {X = Tally} _ _ _ c.objects.invariant.count Store (blame_none _ _ (Err Store) refl (λ is. cc is)) c.from_residual.result c.from_residual.ensures.1;
     }
 

@@ -1,4 +1,0 @@
-use Rattle.dep_commands.proofs.starting.archive_of.Goals as goal
-
-pub returns : goal.returns
-returns g c = c.into_store.ensures.same
