@@ -1,5 +1,5 @@
 -- What a field that can be read gives.
-use Rattle.std.proofs.Common.{◌≡◌, ◌∙◌, ◌≤◌, ℕ, Bool, true, false, nat_le, List, [], ◌∷◌, Option, Some, None, IsSome, MatchOption, Result, Ok, Err, IfOk, option_map, refl, sym, ap, subst, cond, true≢false, arith}
+use Rattle.std.proofs.Common.{◌≡◌, ◌∙◌, ◌≤◌, ℕ, Bool, true, false, nat_le, List, [], ◌∷◌, Option, Some, None, IsSome, is_some, MatchOption, Result, Ok, Err, IfOk, option_map, refl, sym, ap, subst, cond, true≢false, arith}
 use Rattle.std.specs.Option.{option_map_or, unwrap_or}
 use Rattle.std.specs.Borrow.{Bor}
 use Rattle.std.proofs.lemmas.Bool.Decides.{nat_tests}
@@ -21,7 +21,7 @@ use Rattle.dep_configuration.specs.declared.field.Bounds.{Bounds}
 use Rattle.dep_configuration.specs.declared.field.ConfigurationField.{ConfigurationField}
 use Rattle.dep_configuration.specs.declared.field.ConfigurationField.TheVariants.{Port, MaxUpload, MaxAssembled, MaxSegments, StagingMaxIdle}
 use Rattle.dep_configuration.specs.declared.field.Wanted.{Wanted}
-use Rattle.dep_configuration.specs.declared.field.Wanted.TheVariants.{AnyText, FilledText, Flag, Base, WholeNumber}
+use Rattle.dep_configuration.specs.declared.field.Wanted.TheVariants.{AnyText, FilledText, Flag, Address, Base, WholeNumber}
 
 some-or : {X : Type 0} (r : Option X) (default : X) → IsSome r → r ≡ Some (unwrap_or r default)
 some-or (Some x) default h = refl
@@ -64,9 +64,18 @@ pub number-optional : (field : ConfigurationField) (j : Json) → AreReadable j 
 number-optional field j readable e = read-optional (false ≡ false) (number_within (bounds_of field)) (given_field field j) (suited field (WholeNumber (bounds_of field)) j readable e)
 
 -- a text that has to be given is there, and isn't empty where it must not be
-there : {X V : Type 0} (read : V → Option X) (o : Option V) → MatchOption o (true ≡ false) (λ v. IsSome (read v)) → IsSome (o >>= read)
-there read None h = absurd (true≢false h)
-there read (Some v) h = h
+some-of-filled : (r : Option (List ℕ)) → IsSome (r >>= nonempty) → IsSome r
+some-of-filled None h = h
+some-of-filled (Some text) h = refl
+
+text-there : (w : Wanted) (o : Option Json) → MatchOption o (is_required w ≡ false) (Suits w) → is_required w ≡ true → IsSome (o >>= as_str)
+text-there w None h e = absurd (true≢false (sym e ∙ h))
+text-there AnyText (Some v) h e = absurd (true≢false (sym e))
+text-there FilledText (Some v) h e = some-of-filled (as_str v) h
+text-there Flag (Some v) h e = absurd (true≢false (sym e))
+text-there Address (Some v) h e = absurd (true≢false (sym e))
+text-there Base (Some v) h e = h
+text-there (WholeNumber b) (Some v) h e = absurd (true≢false (sym e))
 
 both-there : (o : Option Json) → MatchOption o (true ≡ false) (λ v. IsSome (as_str v >>= nonempty)) → IsSome (o >>= as_str >>= nonempty)
 both-there None h = absurd (true≢false h)
@@ -77,13 +86,11 @@ filled-same None h = cc
 filled-same (Some []) h = cc
 filled-same (Some (b ∷ text)) h = refl
 
-pub filled-text : (field : ConfigurationField) (j : Json) → AreReadable j → wanted_of field ≡ FilledText → (filled_text_of field j ≡ given_text field j) × IsSome (filled_text_of field j)
-filled-text field j readable e =
-    let h = both-there (given_field field j) (suited field FilledText j readable e) in
-    (filled-same (given_text field j) h, h)
+pub filled-text : (field : ConfigurationField) (j : Json) → AreReadable j → wanted_of field ≡ FilledText → filled_text_of field j ≡ given_text field j
+filled-text field j readable e = filled-same (given_text field j) (both-there (given_field field j) (suited field FilledText j readable e))
 
-pub base-text : (field : ConfigurationField) (j : Json) → AreReadable j → wanted_of field ≡ Base → IsSome (given_text field j)
-base-text field j readable e = there as_str (given_field field j) (suited field Base j readable e)
+pub required : (field : ConfigurationField) (j : Json) → AreReadable j → is_required (wanted_of field) ≡ true → IsSome (given_text field j)
+required field j readable e = text-there (wanted_of field) (given_field field j) (readable field) e
 
 -- a number that is read is within its bounds
 in-bounds : (least most n : ℕ) (digits : Bool) (value : ℕ) → at_least least (cond digits (cond (nat_le value most) (Value value) Above) NotDigits) ≡ Some n → (least ≤ n) × (n ≤ most)
@@ -133,3 +140,11 @@ there-seen None o e h = subst IsSome (sym e) h
 pub copied-text : {E : Type 0} (o : Option (List ℕ)) (text : List ℕ) (r : Result (List ℕ) E) → o ≡ Some text → IfOk r (λ copied. copied ≡ text) → IfOk r (λ copied. o ≡ Some copied)
 copied-text o text (Ok copied) read same = read ∙ ap (λ t. Some t) (sym same)
 copied-text o text (Err e) read same = tt
+
+-- whether there is a value, told by what looks at it
+pub is-some : {X : Type 0} (o : Option X) (told : Bool) → told ≡ is_some o → (told ≡ true → IsSome o) × (IsSome o → told ≡ true)
+is-some o told same = (λ h. sym same ∙ h, λ h. same ∙ h)
+
+pub text-is-some : (r : Option (Bor (List ℕ))) (o : Option (List ℕ)) (told : Bool) → option_map (λ x. x.now) r ≡ o → told ≡ is_some r → (told ≡ true → IsSome o) × (IsSome o → told ≡ true)
+text-is-some (Some x) o told e same = (λ _. subst IsSome e refl, λ _. same)
+text-is-some None o told e same = (λ h. absurd (true≢false (sym h ∙ same)), λ h. absurd (true≢false (sym (subst IsSome (sym e) h))))

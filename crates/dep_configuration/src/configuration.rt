@@ -12,7 +12,7 @@ use crate::checks::check_fields;
 use crate::fault::ConfigurationFault;
 use crate::field::ConfigurationField;
 use crate::names::check_names;
-use crate::values::{address, base, filled_text, flag, number, optional_number, text};
+use crate::values::{address, flag, given_number, number, required_text, text};
 use dep_types::{
     Config, ConfigFault, GREATEST_MAX_ASSEMBLED, GREATEST_MAX_SEGMENTS, GREATEST_MAX_UPLOAD, Text,
 };
@@ -111,8 +111,8 @@ fn configuration_in(alloc: Global, value: &Value<'_>) -> Result<Configuration, A
     requires { AreReadable (value_view value.now) }
     ensures { IfOk result (λ c. HasConfiguration c (value_view value.now)) }
 {
-    let database = filled_text(alloc, value, ConfigurationField::Database)?;
-    let spool_folder = filled_text(alloc, value, ConfigurationField::SpoolFolder)?;
+    let database = required_text(alloc, value, ConfigurationField::Database)?;
+    let spool_folder = required_text(alloc, value, ConfigurationField::SpoolFolder)?;
     let stop_file = text(alloc, value, ConfigurationField::StopFile, "")?;
     let config = config_in(alloc, value)?;
     Ok(Configuration {
@@ -132,7 +132,7 @@ fn config_in(alloc: Global, value: &Value<'_>) -> Result<Config, AllocError>
     requires { AreReadable (value_view value.now) }
     ensures { IfOk result (λ c. HasConfig c (value_view value.now)) }
 {
-    let base = base(alloc, value)?;
+    let base = required_text(alloc, value, ConfigurationField::Base)?;
     let title = text(alloc, value, ConfigurationField::Title, "swordd")?;
     let abstract_text = text(
         alloc,
@@ -171,7 +171,7 @@ fn limits_in(value: &Value<'_>) -> ServerLimits
     ServerLimits {
         idle_seconds: number(value, ConfigurationField::IdleSeconds, 60),
         least_rate: number(value, ConfigurationField::LeastRate, 4_096),
-        connections: optional_number(value, ConfigurationField::Connections),
+        connections: given_number(value, ConfigurationField::Connections),
         address_connections: number(value, ConfigurationField::AddressConnections, 1_024),
         spool_bytes: number(value, ConfigurationField::SpoolBytes, 68_719_476_736),
         unfinished_bytes: number(value, ConfigurationField::UnfinishedBytes, 1_073_741_824),

@@ -27,17 +27,20 @@ pub enum ConfigurationFault {
 
 impl fmt::Display for ConfigurationFault {
     fn fmt<W: fmt::Write>(&self, f: &mut fmt::Formatter<W>) -> fmt::Result {
-        match self {
-            ConfigurationFault::Malformed => f.write_str("the configuration is not JSON"),
-            ConfigurationFault::NotObject => f.write_str("the configuration is not an object"),
+        let text = match self {
+            ConfigurationFault::Malformed => "the configuration is not JSON",
+            ConfigurationFault::NotObject => "the configuration is not an object",
             ConfigurationFault::Unknown(name) => {
-                write!(f, "{name:?}: there is no field of this name")
+                return write!(f, "{name:?}: there is no field of this name");
             }
-            ConfigurationFault::Repeated(name) => { write!(f, "{name}: the field is given twice") }
-            ConfigurationFault::Missing(field) => write_wanted(f, *field, ": missing; "),
-            ConfigurationFault::Invalid(field) => write_wanted(f, *field, ": "),
-            ConfigurationFault::Memory => f.write_str("out of memory"),
-        }
+            ConfigurationFault::Repeated(name) => {
+                return write!(f, "{name}: the field is given twice");
+            }
+            ConfigurationFault::Missing(field) => return write_wanted(f, *field, ": missing; "),
+            ConfigurationFault::Invalid(field) => return write_wanted(f, *field, ": "),
+            ConfigurationFault::Memory => "out of memory",
+        };
+        f.write_str(text)
     }
 }
 

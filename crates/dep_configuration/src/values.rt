@@ -1,11 +1,11 @@
 //! The values of the fields that a configuration gives, once each of them can be read.
-ghost use Rattle.std.specs.Prelude.{◌≡◌, IfOk, Some, option_map};
+ghost use Rattle.std.specs.Prelude.{◌≡◌, IfOk, IsTrue, Some, option_map};
 ghost use Rattle.json.specs.Value.{value_view};
-ghost use Rattle.dep_configuration.specs.Fields.{bounds_of};
-ghost use Rattle.dep_configuration.specs.declared.field.Wanted.TheVariants.{AnyText, FilledText, Flag, WholeNumber};
+ghost use Rattle.dep_configuration.specs.Fields.{bounds_of, wanted_of};
+ghost use Rattle.dep_configuration.specs.declared.field.Wanted.TheVariants.{AnyText, Flag, WholeNumber};
 ghost use Rattle.dep_configuration.specs.declared.field.Wanted.TheVariants as Kind;
-ghost use Rattle.dep_configuration.specs.Faults.{GivesField};
-ghost use Rattle.dep_configuration.specs.Readings.{filled_text_of, flag_of, given_number, given_text, number_or_default, number_within, optional_number_of, text_or_default, IsAddressOf};
+ghost use Rattle.dep_configuration.specs.Faults.{is_required, AreReadable, GivesField};
+ghost use Rattle.dep_configuration.specs.Readings.{flag_of, given_number, given_text, number_or_default, number_within, text_or_default, IsAddressOf};
 
 use crate::field::{Bounds, ConfigurationField};
 use dep_octets::{Number, decimal};
@@ -27,24 +27,17 @@ pub(crate) fn text(
     Text::copied(alloc, given_text(value, field).unwrap_or(default))
 }
 
-/// A copy of the text of a field that has to be given, and not to be empty.
-pub(crate) fn filled_text(
+/// A copy of the text of a field that has to be given.
+pub(crate) fn required_text(
     alloc: Global,
     value: &Value<'_>,
     field: ConfigurationField,
 ) -> Result<Text, AllocError>
-    requires { GivesField field FilledText (value_view value.now) }
-    ensures { IfOk result (λ text. filled_text_of field (value_view value.now) ≡ Some text) }
+    requires readable { AreReadable (value_view value.now) }
+    requires required { IsTrue (is_required (wanted_of field)) }
+    ensures { IfOk result (λ text. given_text field (value_view value.now) ≡ Some text) }
 {
     Text::copied(alloc, given_text(value, field).unwrap())
-}
-
-/// A copy of the text of the base, which has to be given.
-pub(crate) fn base(alloc: Global, value: &Value<'_>) -> Result<Text, AllocError>
-    requires { GivesField ConfigurationField.Base Kind.Base (value_view value.now) }
-    ensures { IfOk result (λ text. given_text ConfigurationField.Base (value_view value.now) ≡ Some text) }
-{
-    Text::copied(alloc, given_text(value, ConfigurationField::Base).unwrap())
 }
 
 /// The truth value of a field, which is false where it isn't given.
@@ -80,14 +73,6 @@ pub(crate) fn number(value: &Value<'_>, field: ConfigurationField, default: u64)
     given_number(value, field).unwrap_or(default)
 }
 
-/// The number of a field, where it is given.
-pub(crate) fn optional_number(value: &Value<'_>, field: ConfigurationField) -> Option<u64>
-    requires { GivesField field (WholeNumber (bounds_of field)) (value_view value.now) }
-    ensures { optional_number_of field (value_view value.now) ≡ Some result }
-{
-    given_number(value, field)
-}
-
 /// The number that a value is, where it is one within these bounds, written by digits alone.
 #[tactic(auto, unfolding(crate::specs::Readings::number_within))]
 pub(crate) fn whole_number(value: &Value<'_>, bounds: Bounds) -> Option<u64>
@@ -107,8 +92,8 @@ fn given_text<'a>(value: &Value<'a>, field: ConfigurationField) -> Option<&'a st
     value.get(field.name())?.as_str()
 }
 
-// The number that a field is given as.
-fn given_number(value: &Value<'_>, field: ConfigurationField) -> Option<u64>
+/// The number that a field is given as.
+pub(crate) fn given_number(value: &Value<'_>, field: ConfigurationField) -> Option<u64>
     ensures { result ≡ given_number field (value_view value.now) }
 {
     whole_number(value.get(field.name())?, field.bounds())
