@@ -18,6 +18,5 @@ mod uploads;
 pub use caching::{Cache, cached, clock_still, read_still, still_known};
 pub use carrying::carry_out;
 pub use known::{known_after, row_after};
-pub use new_files::copied_behalf;
-pub use performing::{Done, accept, answer_operation, delivery_at, hash_for};
+pub use performing::{Done, answer_operation, hash_for};
 pub use showing::{file_shown, is_plain_read, show_service};

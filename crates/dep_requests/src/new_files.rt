@@ -46,8 +46,8 @@ struct Extent {
     digests: Digests,
 }
 
-/// A copy of the name of the person on whose behalf a file is deposited, if it is on anyone's.
-pub fn copied_behalf(alloc: Global, behalf: &Option<Text>) -> Result<Option<Text>, AllocError>
+// A copy of the name of the person on whose behalf a file is deposited, if it is on anyone's.
+fn copied_behalf(alloc: Global, behalf: &Option<Text>) -> Result<Option<Text>, AllocError>
     ensures { IfOk result (λ copied. copied ≡ behalf.now) }
 {
     match behalf {
@@ -162,10 +162,16 @@ fn put_new_file<T: Statements>(
 {
     let row = row_of(file.change, file.numbers, file.new, index)?;
     match file.new.source {
-        ContentSource::Posted(digests) => put_file(tx, &row, &digests.sha512, file.change.content),
+        ContentSource::Posted(digests) => {
+            let put = put_file(tx, &row, &digests.sha512, file.change.content);
+            drop(row);
+            put
+        }
         ContentSource::Assembled(_) => {
             let upload = whole_upload(file.change.view, index)?;
-            assemble(tx, &upload.row, &row, &upload.digests.sha512)
+            let put = assemble(tx, &upload.row, &row, &upload.digests.sha512);
+            drop(row);
+            put
         }
     }
 }

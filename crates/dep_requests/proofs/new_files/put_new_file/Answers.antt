@@ -6,14 +6,14 @@ use Rattle.dep_requests.proofs.new_files.put_new_file.Goals as goal
 pub returns-in-Posted : goal.returns-in-Posted
 returns-in-Posted g c =
     let file = c.args.file.now in
-    record { map = posted_put file.change.now file.numbers file.new.now c.args.index c.in_ok-row.row c.in_ok-row.ensures.reported _ c.in-Posted.is c.put_file.ensures.does }
+    record { map = posted_put file.change.now file.numbers file.new.now c.args.index c.in_ok-row.row c.in_ok-row.ensures.reported _ c.in-Posted.is c.put_file-put.ensures.does }
 
-pub returns : goal.returns
-returns g c =
+pub returns-in_ok-upload-in-Assembled : goal.returns-in_ok-upload-in-Assembled
+returns-in_ok-upload-in-Assembled g c =
     let file = c.args.file.now in
     record {
       map = upload_put file.change.now file.numbers file.new.now c.args.index c.in_ok-row.row c.in_ok-row.ensures.reported _ c.in-Assembled.is c.in_ok-upload-in-Assembled.upload
-          c.in_ok-upload-in-Assembled.ensures.reported c.assemble.ensures.does;
+          c.in_ok-upload-in-Assembled.ensures.reported c.assemble-put.ensures.does;
     }
 
 pub returns-in_err-row : goal.returns-in_err-row

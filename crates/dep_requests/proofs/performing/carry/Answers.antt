@@ -3,7 +3,7 @@ use Rattle.std.proofs.lemmas.Result.{IfOk-from_err}
 use Rattle.dep_types.specs.State.{State}
 use Rattle.dep_tables.proofs.Chains.{clean_before}
 use Rattle.dep_row_maps.specs.Clauses.{SeesState}
-use Rattle.dep_row_maps.proofs.Changing.{changes_err, changes_ok, changes_put, changes_then}
+use Rattle.dep_row_maps.proofs.Changing.{changes_err, changes_ok, changes_then}
 use Rattle.dep_decisions.specs.Effects.{effect}
 use Rattle.dep_decisions.proofs.Accepted.{effect_sound}
 use Rattle.dep_requests.specs.Reported.{IsAccepted}
@@ -11,27 +11,13 @@ use Rattle.dep_requests.proofs.Carried.{request_made}
 use Rattle.dep_requests.proofs.KnownShown.{has_known}
 use Rattle.dep_objects.specs.Objects.{HasRow}
 use Rattle.dep_requests.proofs.KnownReplies.{known_shown_by}
-use Rattle.dep_requests.proofs.Stepping.{changes_still, left_alone, next_after, reads_alone, row_known_shown, shown_after}
+use Rattle.dep_requests.proofs.Stepping.{changes_still, left_alone, next_after, reads_alone, shown_after}
 use Rattle.dep_requests.proofs.performing.carry.Goals as goal
-
-pub returns-in_err-row-clause-map : goal.returns-in_err-row-clause-map
-returns-in_err-row-clause-map g c = record {
-  done = λ clean within ours s are config sound fit rules ruling. IfOk-from_err c.from_residual.result _ c.from_residual.ensures.0;
-  keeps = changes_put g.T.Statements.lenders g.T.Statements.state c.args.tx.now _;
-}
-
-pub returns-in-Some-clause-map : goal.returns-in-Some-clause-map
-returns-in-Some-clause-map g c = record {
-  done = λ clean within ours s are config sound fit rules ruling.
-      let shows = row_known_shown config s c.args.operation.now c.args.ruled.now rules c.in-Some.row (sym c.in-Some.is ∙ c.in_ok-row.ensures) in
-      (subst (λ (after : State). SeesState (g.T.Statements.state c.args.tx.now) after) (sym shows.0) are, shows.1);
-  keeps = changes_put g.T.Statements.lenders g.T.Statements.state c.args.tx.now _;
-}
 
 pub returns-in_err-carry_out-clause-map : goal.returns-in_err-carry_out-clause-map
 returns-in_err-carry_out-clause-map g c = record {
-  done = λ clean within ours s are config sound fit rules ruling. IfOk-from_err c.from_residual-in_err-carry_out.result _ c.from_residual-in_err-carry_out.ensures.0;
-  keeps = changes_err c.from_residual-in_err-carry_out.ensures.0 c.in_err-carry_out.ensures.map.keeps.stays;
+  done = λ clean within ours s are config sound fit rules ruling. IfOk-from_err c.from_residual.result _ c.from_residual.ensures.0;
+  keeps = changes_err c.from_residual.ensures.0 c.in_err-carry_out.ensures.map.keeps.stays;
 }
 
 pub returns-in_err-shown-clause-map : goal.returns-in_err-shown-clause-map
@@ -63,16 +49,16 @@ pub returns-clause-unchanged : goal.returns-clause-unchanged
 returns-clause-unchanged g c show =
     reads_alone g.T.Statements.state c.args.tx.now c.carry_out.new.tx c.load_shown.new.tx c.load_shown.result (c.in_ok-carry_out.ensures.untouched show).1 c.load_shown.ensures.does.map.keeps.same
 
-pub returns-in-Some-2-clause-map : goal.returns-in-Some-2-clause-map
-returns-in-Some-2-clause-map g c = record {
+pub returns-in-Some-clause-map : goal.returns-in-Some-clause-map
+returns-in-Some-clause-map g c = record {
   done = λ clean within ours s are config sound fit rules ruling.
       let op = c.args.operation.now in
       let accepted : IsAccepted s c.args.ruled.now.view op.content c.args.decision.now = record { config = config; op = op; sound = sound; seen = rules.view; ruling = ruling; sent = refl } in
       let made = subst (SeesState (g.T.Statements.state c.carry_out.new.tx)) (request_made config s op c.args.decision.now ruling.1) (c.in_ok-carry_out.ensures.map.done clean within ours s are accepted) in
-      (made, known_shown_by config s op c.args.decision.now c.in-Some-2.shown ruling.1 (sym c.in-Some-2.is ∙ c.in_ok-shown.ensures s accepted));
+      (made, known_shown_by config s op c.args.decision.now c.in-Some.shown ruling.1 (sym c.in-Some.is ∙ c.in_ok-shown.ensures s accepted));
   keeps = changes_ok c.in_ok-carry_out.ensures.map.keeps;
 }
 
-pub returns-in-Some-2-clause-unchanged : goal.returns-in-Some-2-clause-unchanged
-returns-in-Some-2-clause-unchanged g c show is_open clean ours =
+pub returns-in-Some-clause-unchanged : goal.returns-in-Some-clause-unchanged
+returns-in-Some-clause-unchanged g c show is_open clean ours =
     left_alone g.T.Statements.state c.args.tx.now c.carry_out.new.tx (c.in_ok-carry_out.ensures.untouched show).1 is_open
