@@ -4,7 +4,7 @@ use Rattle.dep_decisions.specs.LookUps.{in_state}
 use Rattle.dep_decisions.specs.Laws.{uploads_refusal}
 use Rattle.dep_operations.specs.Views.{touched_by, upload_undigested}
 use Rattle.dep_operations.specs.declared.view.UploadView.{UploadView}
-use Rattle.dep_tables.proofs.Chains.{may_ok, may_put}
+use Rattle.dep_tables.proofs.Chains.{may_err, may_ok, may_put}
 use Rattle.dep_views.proofs.Hashed.{seen_named}
 use Rattle.dep_views.specs.Named.{AreNamed}
 use Rattle.dep_views.specs.declared.view.LoadedView.{LoadedView}
@@ -68,5 +68,19 @@ returns-in_err-refusal-in-Whole g c = record {
   map = record {
     found = λ clean inside ours s are is_open sound running loaded. IfOk-from_err c.from_residual-in_err-refusal-in-Whole.result _ c.from_residual-in_err-refusal-in-Whole.ensures.0;
     keeps = may_ok c.in_ok-refusal.ensures.map.keeps;
+  };
+}
+
+pub refusal_before_digests-requires : goal.refusal_before_digests-requires
+refusal_before_digests-requires g c = c.content_purpose-purpose.ensures
+
+pub refusal_before_digests-requires-in-Whole : goal.refusal_before_digests-requires-in-Whole
+refusal_before_digests-requires-in-Whole g c = c.content_purpose-purpose.ensures
+
+pub returns-in_err-refusal : goal.returns-in_err-refusal
+returns-in_err-refusal g c = record {
+  map = record {
+    found = λ clean inside ours s are is_open sound running loaded. IfOk-from_err c.from_residual-in_err-refusal.result _ c.from_residual-in_err-refusal.ensures.0;
+    keeps = may_err c.from_residual-in_err-refusal.ensures.0 c.in_err-refusal.ensures.map.keeps;
   };
 }
