@@ -2,7 +2,8 @@ use Rattle.std.proofs.Common.{◌≡◌, Option, false, [], refl, sym, subst}
 use Rattle.std.proofs.lemmas.Result.{IfOk-weaker}
 use Rattle.dep_slot.specs.Causes.{causes_of}
 use Rattle.dep_host.specs.Rounds.{is_overdue}
-use Rattle.dep_host.specs.Coming.{seconds_of}
+use Rattle.std.specs.List.{AllByRecursion}
+use Rattle.dep_host.specs.Coming.{IsFresh, seconds_of}
 use Rattle.dep_host.specs.Actions.{position}
 use Rattle.dep_host.specs.Hosting.{GoesRound}
 use Rattle.dep_host.specs.declared.events.Event.{Event}
@@ -53,3 +54,61 @@ returns-in-Stop-clause-time g c =
 
 pub returns-in-Stop-clause-shut : goal.returns-in-Stop-clause-shut
 returns-in-Stop-clause-shut g c = λ why ends. subst (λ (event : Event _ _ _). MayEnd c.stop.new.self why (seconds_of event)) (sym c.in-Stop.is) (c.wind_up.ensures.shut why ends)
+
+-- ---- the other clauses
+
+pub returns-in-Ready-clause-idle : goal.returns-in-Ready-clause-idle
+returns-in-Ready-clause-idle g c = λ e. cc
+
+pub returns-in-Ready-clause-shut : goal.returns-in-Ready-clause-shut
+returns-in-Ready-clause-shut g c = λ why e. cc
+
+pub returns-in-Ready-clause-time : goal.returns-in-Ready-clause-time
+returns-in-Ready-clause-time g c =
+    subst (λ (event : Event _ _ _). AllByRecursion (λ second. is_overdue c.set_ready.new.self.shut second c.set_ready.new.self.limits ≡ false) (seconds_of event)) (sym c.in-Ready.is) tt
+
+pub let_in-requires-clause-fresh : goal.let_in-requires-clause-fresh
+let_in-requires-clause-fresh g c = subst (λ (event : Event _ _ _). IsFresh g.K.Sink.taken g.S.Spool.held event) c.in-Client.is c.requires.fresh
+
+pub let_in-requires-clause-vacant : goal.let_in-requires-clause-vacant
+let_in-requires-clause-vacant g c = c.requires.vacant
+
+pub returns-in-Client-clause-vacant : goal.returns-in-Client-clause-vacant
+returns-in-Client-clause-vacant g c = c.vacancy.ensures
+
+pub returns-in-Client-clause-idle : goal.returns-in-Client-clause-idle
+returns-in-Client-clause-idle g c = λ e. cc
+
+pub returns-in-Client-clause-shut : goal.returns-in-Client-clause-shut
+returns-in-Client-clause-shut g c = λ why e. cc
+
+pub returns-in-Client-clause-time : goal.returns-in-Client-clause-time
+returns-in-Client-clause-time g c =
+    subst (λ (event : Event _ _ _). AllByRecursion (λ second. is_overdue c.let_in.new.host.shut second c.let_in.new.host.limits ≡ false) (seconds_of event)) (sym c.in-Client.is) tt
+
+pub returns-in-Round-clause-vacant : goal.returns-in-Round-clause-vacant
+returns-in-Round-clause-vacant g c = c.wind_up-next.ensures.vacant
+
+pub returns-in-Round-clause-idle : goal.returns-in-Round-clause-idle
+returns-in-Round-clause-idle g c = c.wind_up-next.ensures.idle
+
+pub wind_up-requires : goal.wind_up-requires
+wind_up-requires g c = record { idle = λ e. cc }
+
+pub returns-in-Stop-clause-vacant : goal.returns-in-Stop-clause-vacant
+returns-in-Stop-clause-vacant g c = c.wind_up.ensures.vacant
+
+pub returns-in-Stop-clause-idle : goal.returns-in-Stop-clause-idle
+returns-in-Stop-clause-idle g c = c.wind_up.ensures.idle
+
+pub returns-in-End-clause-vacant : goal.returns-in-End-clause-vacant
+returns-in-End-clause-vacant g c = tt
+
+pub returns-in-End-clause-idle : goal.returns-in-End-clause-idle
+returns-in-End-clause-idle g c = tt
+
+pub returns-in-End-clause-shut : goal.returns-in-End-clause-shut
+returns-in-End-clause-shut g c = λ why e. cc
+
+pub returns-in-End-clause-time : goal.returns-in-End-clause-time
+returns-in-End-clause-time g c = tt
