@@ -1,3 +1,4 @@
 pub mod Puts
 pub mod Named
 pub mod Appending
+pub mod AheadTexts

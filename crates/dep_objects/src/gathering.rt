@@ -1,6 +1,6 @@
 //! The rows of an object's metadata, gathered by name.
 
-ghost use Rattle.std.specs.Prelude.{◌≡◌, ◌<◌, ◌^◌, Some, None, IfOk, map as each};
+ghost use Rattle.std.specs.Prelude.{◌≡◌, ◌<◌, ◌^◌, Some, None, IfOk, fold, map as each};
 ghost use Rattle.std.specs.FinMap as map;
 ghost use Rattle.dep_row_maps.specs.Stored.{with_added_text, listed, grouped};
 ghost use Rattle.dep_row_maps.specs.ReadLaws.{pair_of};
@@ -14,7 +14,7 @@ use std::alloc::Global;
 
 // A name with the texts that were read of it.
 #[derive(Drop)]
-struct NamedTexts {
+pub(crate) struct NamedTexts {
     name: Text,
     texts: Vec<Text>,
 }
@@ -59,17 +59,39 @@ fn gather(
     begin(alloc, metadata, row)
 }
 
+// Gathers rows behind those that were gathered before, of which this name is the last.
+pub(crate) fn gather_rows(
+    alloc: Global,
+    metadata: &mut Metadata,
+    last: Option<NamedTexts>,
+    rows: Vec<MetadataRow>,
+) -> Result<Option<NamedTexts>, StoreFault>
+    ensures reported { IfOk result (λ now. closed metadata.new now
+        ≡ fold with_added_text (closed metadata.old last) (each pair_of rows.items)) }
+{
+    let mut last = last;
+    'rows: for row in rows {
+        last = Some(gather(alloc, metadata, last, row)?);
+    }
+    Ok(last)
+}
+
+// Puts the texts of the name that was gathered last in their place.
+pub(crate) fn close(metadata: &mut Metadata, last: Option<NamedTexts>) -> Result<(), StoreFault>
+    ensures { IfOk result (λ _. metadata.new ≡ closed metadata.old last) }
+{
+    if let Some(last) = last {
+        metadata.insert(last.name, List::from_vec(last.texts))?;
+    }
+    Ok(())
+}
+
 fn gathered(alloc: Global, rows: Vec<MetadataRow>) -> Result<Metadata, StoreFault>
     ensures reported { IfOk result (λ metadata. metadata ≡ grouped (each pair_of rows.items)) }
 {
     let mut metadata = Metadata::new(alloc);
-    let mut last = None;
-    'rows: for row in rows {
-        last = Some(gather(alloc, &mut metadata, last, row)?);
-    }
-    if let Some(last) = last {
-        metadata.insert(last.name, List::from_vec(last.texts))?;
-    }
+    let last = gather_rows(alloc, &mut metadata, None, rows)?;
+    close(&mut metadata, last)?;
     Ok(metadata)
 }
 
