@@ -3,12 +3,12 @@
 ghost use Rattle.std.specs.Prelude.{◌≡◌, IfOk, IfSome};
 ghost use Rattle.dep_types.specs.State.{State};
 ghost use Rattle.dep_types.specs.Sound.{IsSound};
-ghost use Rattle.dep_row_maps.specs.Clauses.{MayFind, ReadsOver};
+ghost use Rattle.dep_row_maps.specs.Clauses.{ReadsOver};
 ghost use Rattle.dep_objects.specs.Objects.{HasRow, IsDescribed};
 ghost use Rattle.dep_objects.specs.Ahead.{AreRead, IsRead, KeepsRead};
 
 use crate::gathering::{NamedTexts, close, gather_rows};
-use crate::objects::{DescribedObject, describe, find_object};
+use crate::objects::find_object;
 use dep_tables::{Statements, metadata_of};
 use dep_types::{Metadata, ObjectRow, StoreFault};
 use std::alloc::Global;
@@ -48,8 +48,8 @@ impl TextsAhead {
         }
     }
 
-    /// Takes out the texts of the object of this row, where all of them were read.
-    fn take(&mut self, row: &ObjectRow) -> Option<Metadata>
+    /// Takes out the metadata of the object of this row, which is there, where all of it was read.
+    pub fn take(&mut self, row: &ObjectRow) -> Option<Metadata>
         ensures left { (s : State) → AreRead s self.old → AreRead s self.new }
         ensures taken { IfSome result (λ metadata. (s : State) → IsSound s → AreRead s self.old
             → HasRow s row.now
@@ -57,8 +57,7 @@ impl TextsAhead {
     {
         match self.read.take() {
             Some(read)
-                if read.is_whole && read.object == row.object && read.tag == row.object_tag =>
-            {
+                if read.is_whole && read.object == row.object && read.tag == row.object_tag => {
                 Some(read.metadata)
             }
             other => {
@@ -131,9 +130,9 @@ fn read_on<T: Statements>(
     })
 }
 
-/// Reads texts of an object, if it is there, which a request for all of them takes out then ([`describe_ahead`]). It returns
-/// whether more may be left: also where those of another object are read, whose request comes first. What was read is lost
-/// where it fails. A number of 2^63 or more is a fault of the store.
+/// Reads texts of an object, if it is there, which a request that shows all of them takes out then
+/// ([`take`](TextsAhead::take)). It returns whether more may be left: also where those of another object are read, whose request
+/// comes first. What was read is lost where it fails. A number of 2^63 or more is a fault of the store.
 pub fn read_ahead<T: Statements>(
     tx: &mut T,
     alloc: Global,
@@ -157,22 +156,4 @@ pub fn read_ahead<T: Statements>(
     let is_left = !read.is_whole;
     ahead.put(read);
     Ok(is_left)
-}
-
-/// The object of this row, which is there, with its metadata: what was read ahead is taken out, where that is all of it. The
-/// row is not read again. A number of 2^63 or more is a fault of the store.
-pub fn describe_ahead<T: Statements>(
-    tx: &mut T,
-    alloc: Global,
-    ahead: &mut TextsAhead,
-    row: ObjectRow,
-) -> Result<DescribedObject, StoreFault>
-    ensures does { MayFind T.lenders T.state tx.old tx.new result
-        (λ s. IsSound s → AreRead s ahead.old
-        → AreRead s ahead.new × (HasRow s row → IfOk result (IsDescribed s row.object))) }
-{
-    match ahead.take(&row) {
-        Some(metadata) => Ok(DescribedObject { row, metadata }),
-        None => describe(tx, alloc, row),
-    }
 }

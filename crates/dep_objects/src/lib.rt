@@ -8,7 +8,7 @@ mod gathering;
 mod metadata;
 mod objects;
 
-pub use ahead::{TextsAhead, describe_ahead, read_ahead};
+pub use ahead::{TextsAhead, read_ahead};
 pub use clock::counters;
 pub use metadata::{append_metadata, set_metadata};
 pub use objects::{DescribedObject, add_object, delete_object, describe, find_object, put_object};
