@@ -32,3 +32,11 @@ none_viewed s n found = go (finmap.get s.objects n) found
     go : (o : Option Object) → ◌≡◌ {A = Option ObjectRow} None (option_map (object_row n) o) → ◌≡◌ {A = Option ObjectView} None (option_map (object_view n) o)
     go None e = refl
     go (Some o) e = absurd (cc)
+
+-- the row of what is described has its number
+pub described_number : (s : State) (n : ℕ) (found : DescribedObject) → Some found ≡ option_map (described_object n) (finmap.get s.objects n) → found.row.object ≡ n
+described_number s n found is = go (finmap.get s.objects n) is
+  where
+    go : (o : Option Object) → Some found ≡ option_map (described_object n) o → found.row.object ≡ n
+    go None e = absurd (cc)
+    go (Some o) e = let same : found ≡ described_object n o = cc in ap (λ (d : DescribedObject). d.row.object) same

@@ -8,6 +8,7 @@ use Rattle.sqlite.specs.Effect.{Database}
 use Rattle.sqlite.specs.State as db
 use Rattle.dep_types.specs.State.{State, File, Object, Upload}
 use Rattle.dep_types.specs.Maps.{Numbered}
+use Rattle.dep_types.specs.Sound.{IsSound}
 use Rattle.dep_types.specs.Rows.{file_row, object_row, upload_row}
 use Rattle.dep_types.specs.declared.rows.FileRow.{FileRow}
 use Rattle.dep_types.specs.declared.rows.ObjectRow.{ObjectRow}
@@ -107,27 +108,42 @@ module _ {T L : Type 0} {lenders : T → L} {state : T → db.State} {old new : 
       })
 
 -- what is shown without a look at the tables
-pub shown_at_once : {T L : Type 0} {lenders : T → L} {state : T → db.State} {tx : T} {a : ReadSet} {reported : State → Type 0} (it : Shown) → ((s : State) → reported s → it ≡ shown_at s a)
+pub shown_at_once : {T L : Type 0} {lenders : T → L} {state : T → db.State} {tx : T} {a : ReadSet} {reported : State → Type 0} (it : Shown) → ((s : State) → IsSound s → reported s → it ≡ shown_at s a)
     → MayReadShown lenders state tx tx (Ok it) a reported
 shown_at_once {lenders = lenders} {state = state} {tx = tx} it shows = record {
-  map = record { found = λ clean inside ours s are sound reported. shows s reported; keeps = may_put lenders state tx (Ok it) };
+  map = record { found = λ clean inside ours s are sound reported. shows s sound reported; keeps = may_put lenders state tx (Ok it) };
   still = λ clean ours. refl;
 }
 
+module _ {T L : Type 0} {lenders : T → L} {state : T → db.State} {old new : T} {r : Result Shown StoreFault} {a : ReadSet} where
+  -- what reads may read
+  pub may_shown : {reported : State → Type 0} → ReadsShown lenders state old new r a reported → MayReadShown lenders state old new r a reported
+  may_shown reads = record {
+    map = record { found = reads.map.found; keeps = may_read reads.map.keeps };
+    still = λ clean ours. ok_then r (reads.map.keeps.same clean ours) (λ same. same.0.now_is);
+  }
+
+  -- whatever was read ahead
+  pub beside_texts : {reported : State → Type 0} (more : State → Type 0) → MayReadShown lenders state old new r a reported → MayReadShown lenders state old new r a (λ s. reported s × more s)
+  beside_texts more reads = record {
+    map = record { found = λ clean inside ours s are sound told. reads.map.found clean inside ours s are sound told.0; keeps = reads.map.keeps };
+    still = reads.still;
+  }
+
 -- by the row of the object, which is there, what is shown of it
 pub shown_by_row : {T L : Type 0} {lenders : T → L} {state : T → db.State} {old new : T} {r : Result Shown StoreFault} {a : ReadSet}
-    (by_number : ℕ → ReadSet) (n : ℕ) (row : ObjectRow) → ((s : State) → object_row_read s (by_number n) ≡ option_map (object_row n) (finmap.get s.objects n)) → a ≡ by_number n
-    → ReadsShown lenders state old new r (by_number row.object) (λ s. HasRow s row)
-    → MayReadShown lenders state old new r a (λ s. Some row ≡ object_row_read s a)
-shown_by_row {lenders = lenders} {state = state} {old = old} {new = new} {r = r} by_number n row there is reads =
-    subst (λ (x : ReadSet). MayReadShown lenders state old new r x (λ s. Some row ≡ object_row_read s x)) (sym is) (record {
+    (by_number : ℕ → ReadSet) (n : ℕ) (row : ObjectRow) (more : State → Type 0) → ((s : State) → object_row_read s (by_number n) ≡ option_map (object_row n) (finmap.get s.objects n)) → a ≡ by_number n
+    → MayReadShown lenders state old new r (by_number row.object) (λ s. HasRow s row × more s)
+    → MayReadShown lenders state old new r a (λ s. (Some row ≡ object_row_read s a) × more s)
+shown_by_row {lenders = lenders} {state = state} {old = old} {new = new} {r = r} by_number n row more there is reads =
+    subst (λ (x : ReadSet). MayReadShown lenders state old new r x (λ s. (Some row ≡ object_row_read s x) × more s)) (sym is) (record {
       map = record {
-        found = λ clean inside ours s are sound same.
-            let it = same ∙ there s in
-            subst (λ (k : ℕ). IfOk r (λ shown. shown ≡ shown_at s (by_number k))) (its_number s n row it) (reads.map.found clean inside ours s are sound (has_row s n row it));
-        keeps = may_read reads.map.keeps;
+        found = λ clean inside ours s are sound told.
+            let it = told.0 ∙ there s in
+            subst (λ (k : ℕ). IfOk r (λ shown. shown ≡ shown_at s (by_number k))) (its_number s n row it) (reads.map.found clean inside ours s are sound (has_row s n row it, told.1));
+        keeps = reads.map.keeps;
       };
-      still = λ clean ours. ok_then r (reads.map.keeps.same clean ours) (λ same. same.0.now_is);
+      still = reads.still;
     })
 
 module _ (s : State) (a : ReadSet) where
@@ -170,15 +186,15 @@ absent_shown s (read_set.Upload u) file upload e = absurd (upload u refl)
 
 -- what is shown behind the look at the row is shown of the state before it
 pub shown_behind_row : {T L : Type 0} {lenders : T → L} {state : T → db.State} {old mid new : T} {r : Result Shown StoreFault} {a : ReadSet} {known row read : Option ObjectRow}
-    → row ≡ read → MayFindRow lenders state old mid (Ok row) a known → MayReadShown lenders state mid new r a (λ s. read ≡ object_row_read s a)
-    → MayReadShown lenders state old new r a (λ s. IfSome known (HasRow s))
+    {more : State → Type 0} → row ≡ read → MayFindRow lenders state old mid (Ok row) a known → MayReadShown lenders state mid new r a (λ s. (read ≡ object_row_read s a) × more s)
+    → MayReadShown lenders state old new r a (λ s. IfSome known (HasRow s) × more s)
 shown_behind_row {r = r} is first second = record {
   map = record {
-    found = λ clean inside ours s are sound known.
+    found = λ clean inside ours s are sound told.
         let before = clean_before second.map.keeps.stays clean in
         let same = first.still before ours in
         second.map.found clean (first.keeps.stays.inside before inside) (subst HasOurTables (sym same) ours) s (subst (λ (d : Database). TablesAre (tables_in d.trees) s) (sym same) are) sound
-        (sym is ∙ first.map before inside ours s are known);
+        (sym is ∙ first.map before inside ours s are told.0, told.1);
     keeps = may_then first.keeps second.map.keeps;
   };
   still = λ clean ours.

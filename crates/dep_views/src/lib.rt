@@ -3,6 +3,7 @@
 //! Nothing here changes a table; after an `Err` the owner of the transaction gives it back.
 #![tactic(auto)]
 
+mod ahead;
 mod digests;
 mod named;
 mod objects;
@@ -14,6 +15,7 @@ mod touching;
 mod uploads;
 mod view;
 
+pub use ahead::WorkAhead;
 pub use digests::{hash_named, load_digests};
 pub use named::{NamedUploads, load_named};
 pub use objects::load_object_view;

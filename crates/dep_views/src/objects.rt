@@ -6,11 +6,11 @@ ghost use Rattle.dep_types.specs.Sound.{IsSound};
 ghost use Rattle.dep_types.specs.Rows.{object_view};
 ghost use Rattle.dep_tables.specs.Clauses.{ReadsWithin};
 ghost use Rattle.dep_row_maps.specs.Clauses.{Finds, FromMaps};
-ghost use Rattle.dep_objects.specs.Objects.{HasRow};
+ghost use Rattle.dep_objects.specs.Objects.{HasRow, IsDescribed};
 ghost use Rattle.dep_views.specs.Shown.{IsViewOf};
 
 use dep_files::{load_files, load_sha512s};
-use dep_objects::{describe, find_object};
+use dep_objects::{DescribedObject, describe, find_object};
 use dep_tables::Statements;
 use dep_types::{ObjectRow, ObjectView, StoreFault};
 use std::alloc::Global;
@@ -25,7 +25,21 @@ pub(crate) fn view_of<T: Statements>(
         (λ s. IsSound s → HasRow s row → IfOk result (IsViewOf s row.object)) }
 {
     let described = describe(tx, alloc, row)?;
-    let files = load_files(tx, alloc, row.object)?;
+    with_files(tx, alloc, described)
+}
+
+/// Returns the object that is described, with its files.
+pub(crate) fn with_files<T: Statements>(
+    tx: &mut T,
+    alloc: Global,
+    described: DescribedObject,
+) -> Result<ObjectView, StoreFault>
+    ensures map { Finds T.lenders T.state tx.old tx.new result
+        (λ s. IsSound s → IsDescribed s described.row.object described
+        → IfOk result (IsViewOf s described.row.object)) }
+{
+    let object = described.row.object;
+    let files = load_files(tx, alloc, object)?;
     let sha512s = load_sha512s(tx, alloc, files.as_slice())?;
     Ok(ObjectView {
         object: described.row,

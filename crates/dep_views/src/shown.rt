@@ -2,14 +2,16 @@
 
 ghost use Rattle.std.specs.Prelude.{◌≡◌, ⊤, Some, None, IfSome};
 ghost use Rattle.dep_answers.specs.declared.read_set.ReadSet.TheVariants as read_set;
+ghost use Rattle.dep_types.specs.State.{State};
+ghost use Rattle.dep_objects.specs.Ahead.{AreRead};
 ghost use Rattle.dep_objects.specs.Objects.{HasRow};
 ghost use Rattle.dep_views.specs.Shown.{MayFindRow, MayReadShown, ReadsShown, object_of_read_set, object_row_read};
 
-use crate::objects::view_of;
+use crate::objects::{view_of, with_files};
 use crate::segments::numbers_of;
 use dep_answers::{FileId, ReadSet, Shown};
 use dep_files::{find_file, load_files, load_sha512s};
-use dep_objects::{describe, find_object};
+use dep_objects::{DescribedObject, TextsAhead, describe, find_object};
 use dep_staging::{FoundUpload, load_upload};
 use dep_tables::Statements;
 use dep_types::{List, Metadata, ObjectRow, ObjectView, StoreFault};
@@ -75,20 +77,42 @@ fn show_upload<T: Statements>(tx: &mut T, alloc: Global, upload: u64) -> Result<
     }
 }
 
-// What is told of the object of this row.
-fn show_rest<T: Statements>(tx: &mut T, alloc: Global, row: ObjectRow) -> Result<Shown, StoreFault>
+// What is told of the object of this row, of which texts may have been read ahead.
+fn show_rest<T: Statements>(
+    tx: &mut T,
+    alloc: Global,
+    texts: &mut TextsAhead,
+    row: ObjectRow,
+) -> Result<Shown, StoreFault>
     ensures does { ReadsShown T.lenders T.state tx.old tx.new result
-        (read_set.Object row.object) (λ s. HasRow s row) }
+        (read_set.Object row.object) (λ s. HasRow s row × AreRead s texts.old) }
+    ensures texts { (s : State) → AreRead s texts.old → AreRead s texts.new }
 {
+    if let Some(metadata) = texts.take(&row) {
+        let view = with_files(tx, alloc, DescribedObject { row, metadata })?;
+        return Ok(Shown::Object(view));
+    }
     let view = view_of(tx, alloc, row)?;
     Ok(Shown::Object(view))
 }
 
-// The object of this row, with its metadata.
-fn show_texts<T: Statements>(tx: &mut T, alloc: Global, row: ObjectRow) -> Result<Shown, StoreFault>
-    ensures does { ReadsShown T.lenders T.state tx.old tx.new result
-        (read_set.Metadata row.object) (λ s. HasRow s row) }
+// The object of this row, with its metadata, which may have been read ahead.
+fn show_texts<T: Statements>(
+    tx: &mut T,
+    alloc: Global,
+    texts: &mut TextsAhead,
+    row: ObjectRow,
+) -> Result<Shown, StoreFault>
+    ensures does { MayReadShown T.lenders T.state tx.old tx.new result
+        (read_set.Metadata row.object) (λ s. HasRow s row × AreRead s texts.old) }
+    ensures texts { (s : State) → AreRead s texts.old → AreRead s texts.new }
 {
+    if let Some(metadata) = texts.take(&row) {
+        return Ok(Shown::Metadata {
+            object: row,
+            metadata,
+        });
+    }
     let described = describe(tx, alloc, row)?;
     Ok(Shown::Metadata {
         object: described.row,
@@ -129,17 +153,19 @@ fn row_of<T: Statements>(
 fn show_object<T: Statements>(
     tx: &mut T,
     alloc: Global,
+    texts: &mut TextsAhead,
     read_set: &ReadSet,
     row: ObjectRow,
 ) -> Result<Shown, StoreFault>
     ensures does { MayReadShown T.lenders T.state tx.old tx.new result read_set.now
-        (λ s. Some row ≡ object_row_read s read_set.now) }
+        (λ s. (Some row ≡ object_row_read s read_set.now) × AreRead s texts.old) }
+    ensures texts { (s : State) → AreRead s texts.old → AreRead s texts.new }
 {
     match *read_set {
-        ReadSet::Object(_) => show_rest(tx, alloc, row),
+        ReadSet::Object(_) => show_rest(tx, alloc, texts, row),
         ReadSet::Payload(_) => show_hashed(tx, alloc, row),
         ReadSet::Files(_) => show_listed(tx, alloc, row),
-        ReadSet::Metadata(_) => show_texts(tx, alloc, row),
+        ReadSet::Metadata(_) => show_texts(tx, alloc, texts, row),
         _ => Ok(Shown::ObjectRow(row)),
     }
 }
@@ -161,18 +187,21 @@ fn show_other<T: Statements>(
 }
 
 /// What a reply shows, read of the archive; nothing where nothing is there. Where the known row, which the archive has, is the
-/// object's, it is not read again. No content is read. A number of 2^63 or more is a fault of the store.
+/// object's, it is not read again, nor are the texts of its metadata where they were read ahead: these are taken out. No content
+/// is read. A number of 2^63 or more is a fault of the store.
 pub fn load_shown<T: Statements>(
     tx: &mut T,
     alloc: Global,
+    texts: &mut TextsAhead,
     read_set: &ReadSet,
     known: Option<ObjectRow>,
 ) -> Result<Shown, StoreFault>
     ensures does { MayReadShown T.lenders T.state tx.old tx.new result read_set.now
-        (λ s. IfSome known (HasRow s)) }
+        (λ s. IfSome known (HasRow s) × AreRead s texts.old) }
+    ensures texts { (s : State) → AreRead s texts.old → AreRead s texts.new }
 {
     match row_of(tx, read_set, known)? {
-        Some(row) => show_object(tx, alloc, read_set, row),
+        Some(row) => show_object(tx, alloc, texts, read_set, row),
         None => show_other(tx, alloc, read_set),
     }
 }

@@ -1,44 +1,33 @@
 use Rattle.std.proofs.lemmas.Result.{IfOk-from_err}
-use Rattle.std.proofs.Common.{◌∙◌}
-use Rattle.dep_tables.proofs.Chains.{clean_before, reads_ok, reads_may_then, reads_then, reads_err}
-use Rattle.dep_views.proofs.Chains.{read_behind}
-use Rattle.dep_views.proofs.Reported.{viewed}
+use Rattle.std.proofs.Common.{ℕ, ◌≡◌, Some, IfOk, subst, sym}
+use Rattle.std.specs.Prelude.{option_map}
+use Rattle.std.specs.FinMap as finmap
+use Rattle.dep_tables.proofs.Chains.{clean_before, reads_then, reads_err, still_ours}
+use Rattle.dep_objects.specs.Objects.{IsDescribed}
+use Rattle.dep_views.specs.Shown.{IsViewOf}
+use Rattle.dep_views.proofs.Chains.{still_seen}
+use Rattle.dep_views.proofs.Reported.{described_number}
 use Rattle.dep_views.proofs.objects.view_of.Goals as goal
 
 pub returns : goal.returns
 returns g c =
+    let old = g.T.Statements.state c.args.tx.now in
+    let mid = g.T.Statements.state c.describe.new.tx in
     let one = c.in_ok-described.ensures.does in
-    let two = c.in_ok-files.ensures.does in
-    let three = c.in_ok-sha512s.ensures.does in
-    let both = reads_then one.keeps two.keeps in
-    let n = c.args.row.object in
+    let two = c.with_files.ensures.map in
     record {
       map = record {
         found = λ clean inside ours s are sound has.
-            let earlier = clean_before three.keeps.stays clean in
-            let described = one.found (clean_before two.keeps.stays earlier) inside ours s are sound has in
-            let files = read_behind one.keeps two.keeps.stays (λ clean inside ours s are is_open. two.map clean ours s are) earlier inside ours s are in
-            let values = read_behind both three.keeps.stays three.found clean inside ours s are n (c.as_slice.ensures ∙ files) in
-            viewed s n c.in_ok-described.described c.in_ok-files.files c.in_ok-sha512s.sha512s described files values;
-        keeps = reads_ok (reads_may_then both three.keeps);
+            let earlier = clean_before two.keeps.stays clean in
+            let its = one.found earlier inside ours s are sound has in
+            let same = one.keeps.same earlier ours in
+            let number = described_number s c.args.row.object c.in_ok-described.described its in
+            subst (λ (n : ℕ). IfOk c.with_files.result (IsViewOf s n)) number
+            (two.found clean (one.keeps.stays.inside earlier inside) (still_ours old mid same ours) s (still_seen old mid s same are) sound
+            (subst (λ (n : ℕ). IsDescribed s n c.in_ok-described.described) (sym number) its));
+        keeps = reads_then one.keeps two.keeps;
       };
     }
-
-pub returns-in_err-sha512s : goal.returns-in_err-sha512s
-returns-in_err-sha512s g c = record {
-  map = record {
-    found = λ clean inside ours s are sound has. IfOk-from_err c.from_residual-in_err-sha512s.result _ c.from_residual-in_err-sha512s.ensures.0;
-    keeps = reads_err c.from_residual-in_err-sha512s.ensures.0 (reads_may_then (reads_then c.in_ok-described.ensures.does.keeps c.in_ok-files.ensures.does.keeps) c.load_sha512s.ensures.does.keeps);
-  };
-}
-
-pub returns-in_err-files : goal.returns-in_err-files
-returns-in_err-files g c = record {
-  map = record {
-    found = λ clean inside ours s are sound has. IfOk-from_err c.from_residual-in_err-files.result _ c.from_residual-in_err-files.ensures.0;
-    keeps = reads_err c.from_residual-in_err-files.ensures.0 (reads_then c.in_ok-described.ensures.does.keeps c.load_files.ensures.does.keeps);
-  };
-}
 
 pub returns-in_err-described : goal.returns-in_err-described
 returns-in_err-described g c = record {

@@ -1,13 +1,19 @@
 use Rattle.std.proofs.lemmas.Result.{IfOk-from_err}
 use Rattle.dep_tables.proofs.Chains.{may_err}
-use Rattle.dep_views.proofs.Shows.{shown_behind_row}
+use Rattle.dep_views.proofs.Shows.{beside_texts, shown_behind_row}
 use Rattle.dep_views.proofs.shown.load_shown.Goals as goal
 
 pub returns-in-Some : goal.returns-in-Some
-returns-in-Some g c = record { does = shown_behind_row c.in-Some.is c.in_ok-row.ensures.does c.show_object.ensures.does }
+returns-in-Some g c = record {
+  does = shown_behind_row c.in-Some.is c.in_ok-row.ensures.does c.show_object.ensures.does;
+  texts = c.show_object.ensures.texts;
+}
 
 pub returns-in-None : goal.returns-in-None
-returns-in-None g c = record { does = shown_behind_row c.in-None.is c.in_ok-row.ensures.does c.show_other.ensures.does }
+returns-in-None g c = record {
+  does = shown_behind_row c.in-None.is c.in_ok-row.ensures.does (beside_texts _ c.show_other.ensures.does);
+  texts = λ s are. are;
+}
 
 pub returns-in_err-row : goal.returns-in_err-row
 returns-in_err-row g c = record {
@@ -18,4 +24,5 @@ returns-in_err-row g c = record {
     };
     still = λ clean ours. IfOk-from_err c.from_residual.result _ c.from_residual.ensures.0;
   };
+  texts = λ s are. are;
 }

@@ -1,0 +1,29 @@
+//! What is done ahead of requests.
+
+ghost use Rattle.dep_types.specs.State.{State};
+ghost use Rattle.dep_views.specs.Ahead.{IsAhead};
+
+use dep_objects::TextsAhead;
+use dep_staging::RunningHashes;
+use std::alloc::Global;
+
+/// What was done of requests before they are answered. It is lost with the process.
+#[derive(Drop)]
+pub struct WorkAhead {
+    /// How far uploads were hashed.
+    pub hashes: RunningHashes,
+    /// The texts of an object that were read.
+    pub texts: TextsAhead,
+}
+
+impl WorkAhead {
+    /// Nothing was done. It takes no memory.
+    pub fn new(alloc: Global) -> WorkAhead
+        ensures { (s : State) → IsAhead s result }
+    {
+        WorkAhead {
+            hashes: RunningHashes::new(alloc),
+            texts: TextsAhead::new(),
+        }
+    }
+}
