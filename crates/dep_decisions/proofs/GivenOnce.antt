@@ -43,7 +43,7 @@ appended_tag s content (Metadata texts) ingests o = refl
 
 module _ (s : State) (content : List ℕ) where
   -- an object that was there as it is, or was there and is changed with a tag of its own, or is new
-  abbrev IsKeptOrChanged : (after n : ℕ) → Object → Type 0
+  abbrev pub IsKeptOrChanged : (after n : ℕ) → Object → Type 0
   IsKeptOrChanged after n o = (map.get s.objects n ≡ Some o)
       ⊎ ((((old : Object) × (map.get s.objects n ≡ Some old)) ⊎ (s.next.object ≤ n)) × (o.tag ≡ s.next.change) × (after ≡ s.next.change + 1))
 
@@ -59,7 +59,7 @@ module _ (s : State) (content : List ℕ) where
   created d ingests n o (inl is) = inr (inr (subst (λ (k : ℕ). s.next.object ≤ k) (sym is.0) (le_refl s.next.object)), ap (λ (x : Object). x.tag) is.1 ∙ filled_tag s content d ingests, refl)
   created d ingests n o (inr was) = inl was
 
-  kept_or_changed : (d : Decision) (n : ℕ) (o : Object) → map.get (effect_of s content d).objects n ≡ Some o
+  pub kept_or_changed : (d : Decision) (n : ℕ) (o : Object) → map.get (effect_of s content d).objects n ≡ Some o
       → IsKeptOrChanged (effect_of s content d).next.change n o
   kept_or_changed (Create d ingests) n o e = created d ingests n o (found s.objects s.next.object (filled s content d ingests) n o e)
   kept_or_changed (Append k d ingests) n o e = changed_at k (λ o. ingested_by ingests (appended s content d o)) (appended_tag s content d ingests) n o e

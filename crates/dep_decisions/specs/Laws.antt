@@ -44,6 +44,12 @@ pub record AreGivenOnce (s t : State) : Type 0 where
       → (map.get s.objects n ≡ Some o)
       ⊎ ((o.tag ≡ s.next.change) × IsNew s.next.change t.next.change o.tag)
 
+-- an object whose tag was given before was there before, as it is
+pub record KeepsObjects (s t : State) : Type 0 where
+  pub next : s.next.change ≤ t.next.change
+  pub objects : (n : ℕ) (after : Object) → map.get t.objects n ≡ Some after
+      → after.tag < s.next.change → map.get s.objects n ≡ Some after
+
 -- ---- objects that are ingested
 
 -- each object that was ingested is so still, if it is there
