@@ -58,6 +58,12 @@ read_set_of next (File n f) Put = read_set.File (record { object = n; file = f }
 read_set_of next Staging Post = read_set.Upload (next.upload - 1)
 read_set_of next resource method = read_set.Nothing
 
+-- all the texts of an object's metadata are read
+abbrev pub reads_texts : ReadSet → Bool
+reads_texts (read_set.Object n) = true
+reads_texts (read_set.Metadata n) = true
+reads_texts reads = false
+
 -- an object with its files, as it is shown where no metadata is read
 abbrev pub payload_view : ℕ → Kept → ObjectView
 payload_view n o = record (object_view n o) { metadata = finmap.empty }

@@ -2,7 +2,7 @@
 ghost use Rattle.std.specs.Prelude.{◌≡◌};
 ghost use Rattle.dep_types.specs.declared.counters.Counters.{Counters as ACounters};
 ghost use Rattle.dep_types.specs.declared.target.Method.TheVariants.{Post, Put};
-ghost use Rattle.dep_answers.specs.ReadSets.{read_set_at, read_set_in_bag, read_set_of, tag_read_set};
+ghost use Rattle.dep_answers.specs.ReadSets.{read_set_in_bag, read_set_of, tag_read_set};
 
 use crate::performed::FileId;
 use dep_bag::{TagFile, file_number, tag_file};
@@ -64,7 +64,7 @@ pub enum Shown {
 
 impl ReadSet {
     ghost use Rattle.std.specs.Prelude.{◌≡◌};
-    ghost use Rattle.dep_answers.specs.ReadSets.{read_set_of};
+    ghost use Rattle.dep_answers.specs.ReadSets.{read_set_at, read_set_of, reads_texts};
 
     /// Returns what has to be read for the reply to a request that was accepted and carried out, where the
     /// next numbers are now these: an object or an upload that it made has the last number before them. It
@@ -73,29 +73,36 @@ impl ReadSet {
         ensures { result ≡ read_set_of next.now target.now.resource target.now.method }
     {
         match target.method {
-            Method::Get => shown_by(&target.resource, false),
-            Method::Head => shown_by(&target.resource, true),
+            Method::Get => ReadSet::shown_by(&target.resource, false),
+            Method::Head => ReadSet::shown_by(&target.resource, true),
             Method::Post => posted(&target.resource, next),
             Method::Put => put(&target.resource),
             Method::Delete => ReadSet::Nothing,
         }
     }
-}
 
-// What is read to show a resource, or in a bare reply for its length.
-fn shown_by(resource: &Resource, is_head_only: bool) -> ReadSet
-    ensures { result ≡ read_set_at resource.now is_head_only }
-{
-    match resource {
-        Resource::Object(object) | Resource::BagList(object) => ReadSet::Files(*object),
-        Resource::BagFile(object, path) => in_bag(*object, path.as_slice(), is_head_only),
-        Resource::Metadata(object) => ReadSet::Metadata(*object),
-        Resource::File(object, file) => ReadSet::File(FileId {
-            object: *object,
-            file: *file,
-        }),
-        Resource::Upload(upload) => ReadSet::Upload(*upload),
-        Resource::Service | Resource::FileSet(_) | Resource::Staging => ReadSet::Nothing,
+    /// Returns what has to be read to show a resource, or in a bare reply (a HEAD) for its length. It takes no memory.
+    pub fn shown_by(resource: &Resource, is_head_only: bool) -> ReadSet
+        ensures { result ≡ read_set_at resource.now is_head_only }
+    {
+        match resource {
+            Resource::Object(object) | Resource::BagList(object) => ReadSet::Files(*object),
+            Resource::BagFile(object, path) => in_bag(*object, path.as_slice(), is_head_only),
+            Resource::Metadata(object) => ReadSet::Metadata(*object),
+            Resource::File(object, file) => ReadSet::File(FileId {
+                object: *object,
+                file: *file,
+            }),
+            Resource::Upload(upload) => ReadSet::Upload(*upload),
+            Resource::Service | Resource::FileSet(_) | Resource::Staging => ReadSet::Nothing,
+        }
+    }
+
+    /// Whether all the texts of an object's metadata are read.
+    pub fn reads_texts(self) -> bool
+        ensures { result ≡ reads_texts self }
+    {
+        matches!(self, ReadSet::Object(_) | ReadSet::Metadata(_))
     }
 }
 

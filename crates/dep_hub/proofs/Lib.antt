@@ -11,3 +11,4 @@ pub mod SourceLemmas
 mod KeptLemmas
 pub mod PreparingLemmas
 mod LookLemmas
+mod TextLemmas

@@ -16,7 +16,7 @@ use Rattle.dep_message.proofs.OneReading.{one_at as one_item}
 use Rattle.dep_hub.specs.Claims.{claim_of, has_to_wait, is_any_pending, waits_on}
 use Rattle.dep_exchange.specs.declared.next.Next.{Next}
 use Rattle.dep_hub.specs.Looks.{SeesHead, ShowsItem, is_new, is_to_prepare}
-use Rattle.dep_hub.specs.Preparing.{IsLookedAt, is_preparing, names_uploads}
+use Rattle.dep_hub.specs.Preparing.{IsLookedAt, is_prepared_first, is_preparing}
 use Rattle.dep_hub.specs.RepresentsOwing.{IsAnswerable, MayBeLookedAt, KeepsBack, KeptBack, NextIsAnswerable, RepliesOver, begins_to_prepare, begins_to_wait, behind_at, is_unsent, lacks_memory, waits_still}
 use Rattle.dep_hub.specs.Numbers.{place_of_number}
 use Rattle.dep_hub.specs.Representing.{GoesOnAs, IsClean, IsHonest, intake_of}
@@ -33,8 +33,8 @@ use Rattle.dep_hub.proofs.PendingLemmas.{idle_waits, true_false}
 use Rattle.dep_hub.proofs.PreparingLemmas.{request_head}
 use Rattle.dep_hub.proofs.TurnLemmas.{one_at}
 
--- it wasn't looked at before, and names uploads
-to_prepare : (was : Behind) (head : HeadParts) → is_to_prepare was head ≡ true → (was ≡ Nothing) × (names_uploads head ≡ true)
+-- it wasn't looked at before, and is one that is prepared first
+to_prepare : (was : Behind) (head : HeadParts) → is_to_prepare was head ≡ true → (was ≡ Nothing) × (is_prepared_first head ≡ true)
 to_prepare Nothing head e = (refl, e)
 to_prepare (Content r) head e = cc e
 to_prepare Broken head e = cc e
@@ -42,9 +42,9 @@ to_prepare (Waits claim) head e = cc e
 to_prepare (Prepares left) head e = cc e
 to_prepare Prepared head e = cc e
 
--- or it was, or names none
-none_named : (was : Behind) (head : HeadParts) → is_to_prepare was head ≡ false → was ≡ Nothing → names_uploads head ≡ false
-none_named was head e nothing = sym (ap (λ (b : Behind). is_to_prepare b head) nothing) ∙ e
+-- or it was, or is none
+none_first : (was : Behind) (head : HeadParts) → is_to_prepare was head ≡ false → was ≡ Nothing → is_prepared_first head ≡ false
+none_first was head e nothing = sym (ap (λ (b : Behind). is_to_prepare b head) nothing) ∙ e
 
 -- it holds of an item
 abbrev holds_of : (HeadParts → Bool) → Item → Bool
@@ -64,12 +64,12 @@ module _ (reading : Reading) (was : Behind) (is_busy : Bool) (ready : MayBeLooke
   none_seen absent cs = (ready, (λ m next f. absurd (absent m next f)), λ nothing m next f. absurd (absent m next f))
 
   looked_at : (m : Message) (next : Place) → FirstAt reading.limit reading.place (Request m) next → is_to_prepare was m.head ≡ false → IsLookedAt reading was
-  looked_at m next first e nothing = none_holds names_uploads reading m next first (none_named was m.head e nothing)
+  looked_at m next first e nothing = none_holds is_prepared_first reading m next first (none_first was m.head e nothing)
 
   shows_head : (m : Message) (next : Place) → FirstAt reading.limit reading.place (Request m) next → (look : Look) → SeesHead was is_busy m.head look
       → (cs : List Connection) → is_busy ≡ is_any_pending cs → ShowsItem cs reading was look
   shows_head m next first (Kept now) s cs busy = let named = to_prepare was m.head s.0 in begins_to_prepare named.0 (m, next, first, named.1) s.1
-  shows_head m next first (Claims claim) s cs busy = (ready, looked_at m next first s.0, (m, next, first, s.1, none_named was m.head s.0))
+  shows_head m next first (Claims claim) s cs busy = (ready, looked_at m next first s.0, (m, next, first, s.1, none_first was m.head s.0))
   shows_head m next first Free s cs busy =
       (ready, (λ other after f. idle_waits cs (claim_of other.head) (sym busy ∙ s.1)), looked_at m next first s.0)
 

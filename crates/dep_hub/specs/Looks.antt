@@ -3,7 +3,7 @@ use Rattle.std.specs.Prelude.{◌≡◌, ◌&&◌, Bool, true, false, List}
 use Rattle.dep_head.specs.Head.{HeadParts}
 use Rattle.dep_message.specs.Places.{Reading}
 use Rattle.dep_hub.specs.Claims.{claim_of}
-use Rattle.dep_hub.specs.Preparing.{IsLookedAt, most_steps, names_uploads}
+use Rattle.dep_hub.specs.Preparing.{IsLookedAt, is_prepared_first, most_steps}
 use Rattle.dep_hub.specs.RepresentsOwing.{HasClaim, IsAnswerable, MayBeLookedAt, KeptBack}
 use Rattle.dep_hub.specs.declared.connections.Connection.{Connection}
 use Rattle.dep_hub.specs.declared.keeping.Look.{Look}
@@ -16,9 +16,9 @@ abbrev pub is_new : Behind → Bool
 is_new Nothing = true
 is_new behind = false
 
--- it is to be prepared: it names uploads, and wasn't looked at before
+-- it is to be prepared: it is one that is prepared first, and wasn't looked at before
 abbrev pub is_to_prepare : Behind → HeadParts → Bool
-is_to_prepare was head = is_new was && names_uploads head
+is_to_prepare was head = is_new was && is_prepared_first head
 
 -- what is seen at its head; where nothing is being sent and no request waits, its claim isn't
 abbrev pub SeesHead : (was : Behind) → (is_busy : Bool) → HeadParts → Look → Type 0

@@ -1,4 +1,4 @@
--- Requests whose uploads are hashed before they are answered.
+-- Requests that are prepared before they are answered: their uploads are hashed, or the texts that they show read.
 use Rattle.std.specs.Prelude.{◌≡◌, ◌⊎◌, ◌<◌, ◌≤◌, ℕ, ◌+◌, ◌&&◌, ◌||◌, nat_lt, Bool, true, false, List, length, get_or, Option, Some, None, codes, bytes_eq, if◌then◌else◌}
 use Rattle.dep_head.specs.Head.{HeadParts}
 use Rattle.dep_fields.specs.Reported.{fields_of}
@@ -8,6 +8,13 @@ use Rattle.dep_message.specs.Showing.{IsNoNext}
 use Rattle.dep_message.specs.Stream.{Request, FirstAt}
 use Rattle.dep_message.specs.declared.message.Message.{Message}
 use Rattle.dep_types.specs.Conditions.{Condition}
+use Rattle.dep_types.specs.declared.target.Resource.{Resource}
+use Rattle.dep_types.specs.declared.target.Method.{Method}
+use Rattle.dep_types.specs.declared.target.Method.TheVariants.{Get, Head}
+use Rattle.dep_router.specs.Targets.{target}
+use Rattle.dep_router.specs.declared.routed.Routed.{Routed}
+use Rattle.dep_router.specs.declared.routed.Routed.TheVariants.{To, NotFound, NotAllowed}
+use Rattle.dep_answers.specs.ReadSets.{read_set_at, reads_texts}
 use Rattle.dep_exchange.specs.Archives.{CommitsIfDue, KeepsEachState}
 use Rattle.dep_exchange.specs.ArchiveCalls.{CallLog, Runs, WorkedAhead}
 use Rattle.dep_hub.specs.declared.connections.Connection.{Connection}
@@ -20,22 +27,42 @@ names_uploads head =
     (bytes_eq head.method (codes "POST") || bytes_eq head.method (codes "PUT"))
     && is_by_reference (fields_of head.fields).disposition
 
--- so does the next request, which has come whole
-abbrev pub NamesUploads : Reading → Type 0
-NamesUploads reading = (m : Message) × (next : Place)
-    × FirstAt reading.limit reading.place (Request m) next × (names_uploads m.head ≡ true)
+-- a reply to a GET or a HEAD is made of all the texts of an object's metadata
+abbrev pub texts_shown_to : Resource → Method → Bool
+texts_shown_to resource Get = reads_texts (read_set_at resource false)
+texts_shown_to resource Head = reads_texts (read_set_at resource true)
+texts_shown_to resource method = false
 
--- or it doesn't, if one has come whole
-abbrev pub NamesNone : Reading → Type 0
-NamesNone reading = IsNoNext names_uploads reading.limit reading.place
+-- so is the reply to what a head names
+abbrev pub texts_shown_by : Routed → Bool
+texts_shown_by (To t) = texts_shown_to t.resource t.method
+texts_shown_by NotFound = false
+texts_shown_by (NotAllowed methods) = false
+
+-- so to the request of a head
+abbrev pub shows_texts : HeadParts → Bool
+shows_texts head = texts_shown_by (target head.method head.path)
+
+-- a request is prepared first
+abbrev pub is_prepared_first : HeadParts → Bool
+is_prepared_first head = names_uploads head || shows_texts head
+
+-- so is the next one, which has come whole
+abbrev pub IsPreparedFirst : Reading → Type 0
+IsPreparedFirst reading = (m : Message) × (next : Place)
+    × FirstAt reading.limit reading.place (Request m) next × (is_prepared_first m.head ≡ true)
+
+-- or it isn't, if one has come whole
+abbrev pub NoneIsPrepared : Reading → Type 0
+NoneIsPrepared reading = IsNoNext is_prepared_first reading.limit reading.place
 
 -- how many steps may be made for a request
 abbrev pub most_steps : ℕ
 most_steps = 16777216
 
--- it was looked at, before or now, and names none
+-- it was looked at, before or now, and isn't one that is prepared first
 abbrev pub IsLookedAt : Reading → Behind → Type 0
-IsLookedAt reading behind = behind ≡ Nothing → NamesNone reading
+IsLookedAt reading behind = behind ≡ Nothing → NoneIsPrepared reading
 
 -- the next request is prepared
 abbrev pub is_preparing : Behind → Bool

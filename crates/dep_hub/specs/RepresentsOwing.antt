@@ -20,7 +20,7 @@ use Rattle.dep_hub.specs.declared.claim.Claim.{Claim}
 use Rattle.dep_hub.specs.declared.claim.Claim.TheVariants.{Takes, Reads}
 use Rattle.dep_hub.specs.declared.claim.Files.{Files}
 use Rattle.dep_hub.specs.Claims.{claim_of, has_to_wait, is_any_pending, is_awaited_by, is_content, sends_of, waits_to_take}
-use Rattle.dep_hub.specs.Preparing.{IsLookedAt, NamesNone, NamesUploads, is_preparing, most_steps, names_uploads}
+use Rattle.dep_hub.specs.Preparing.{IsLookedAt, IsPreparedFirst, NoneIsPrepared, is_prepared_first, is_preparing, most_steps}
 use Rattle.dep_hub.specs.declared.sent_on.SentOn.{SentOn}
 use Rattle.dep_hub.specs.declared.sent_on.SentOn.TheVariants.{Part, All, Broken as BrokenOff}
 use Rattle.dep_exchange.specs.declared.arrived.Arrived.{Arrived}
@@ -78,17 +78,17 @@ abbrev pub NextIsFree : {A : Type 0} → Hub A → (number : ℕ) → Type 0
 NextIsFree hub number = (reading : Reading) → intake_of hub.connections.items number ≡ Some reading
     → IsFree hub.connections.items reading
 
--- nor does it name uploads, if it wasn't looked at before
+-- nor is it one that is prepared first, if it wasn't looked at before
 abbrev pub NextIsPrepared : {A : Type 0} → Hub A → (number : ℕ) → Type 0
 NextIsPrepared hub number = behind_at hub.connections.items number ≡ Nothing → (reading : Reading)
-    → intake_of hub.connections.items number ≡ Some reading → NamesNone reading
+    → intake_of hub.connections.items number ≡ Some reading → NoneIsPrepared reading
 
--- The next request has come whole, and this is its claim; and if it wasn't looked at before, it names no
--- uploads. So one that does is prepared before it waits.
+-- The next request has come whole, and this is its claim; and if it wasn't looked at before, it isn't one that is
+-- prepared first. So such a one is prepared before it waits.
 abbrev pub HasClaim : Reading → (was : Behind) → Claim → Type 0
 HasClaim reading was claim = (m : Message) × (next : Place)
     × FirstAt reading.limit reading.place (Request m) next × (claim ≡ claim_of m.head)
-    × (was ≡ Nothing → names_uploads m.head ≡ false)
+    × (was ≡ Nothing → is_prepared_first m.head ≡ false)
 
 -- why nothing is answered, by what was behind the last reply, and what is there then
 pub data KeptBack (connections : List Connection) (reading : Reading) (was now : Behind) : Type 0 where
@@ -96,8 +96,8 @@ pub data KeptBack (connections : List Connection) (reading : Reading) (was now :
   unsent : is_unsent was ≡ true → now ≡ was → KeptBack connections reading was now
   -- its next request is prepared still
   prepares_still : is_preparing was ≡ true → now ≡ was → KeptBack connections reading was now
-  -- its next request names uploads, and is prepared from now on
-  begins_to_prepare : was ≡ Nothing → NamesUploads reading → now ≡ Prepares most_steps
+  -- its next request is one that is prepared first, and is prepared from now on
+  begins_to_prepare : was ≡ Nothing → IsPreparedFirst reading → now ≡ Prepares most_steps
       → KeptBack connections reading was now
   -- its next request waits still
   waits_still : (claim : Claim) → was ≡ Waits claim → now ≡ Waits claim

@@ -11,13 +11,13 @@ ghost use Rattle.dep_hub.specs.declared.rest.Behind.TheVariants.{Nothing};
 use crate::claim::{Claim, claim_of};
 use crate::connections::Connection;
 use crate::pending::has_to_wait;
+use crate::prepared_first::is_prepared_first;
 use crate::preparing::MOST_STEPS;
 use crate::rest::Behind;
-use crate::uploads::names_uploads;
 use dep_exchange::Site;
 use dep_head::Head;
 use dep_message::{Intake, Message, Preview};
-use std::alloc::{AllocError, Global};
+use std::alloc::AllocError;
 
 /// What a look at the next request of a connection shows.
 #[derive(Clone, Copy)]
@@ -51,7 +51,7 @@ impl<'a> Preview for Looks<'a> {
     }
 }
 
-/// Looks at the next request of a connection. It is prepared where it names uploads and wasn't looked at before; and while
+/// Looks at the next request of a connection. One that is prepared first is so where it wasn't looked at before; and while
 /// nothing is being sent and no request waits, its claim isn't asked for.
 pub(crate) fn look_at(site: &Site, is_busy: bool, connection: &mut Connection) -> Look
     ensures same { connection.new ≡ connection.old }
@@ -112,7 +112,7 @@ fn look_at_next(site: &Site, is_busy: bool, was: Behind, intake: &mut Intake) ->
 fn look_for(site: &Site, was: Behind, is_busy: bool, head: &Head) -> Result<Look, AllocError>
     ensures { IfOk result (SeesHead was is_busy head.now) }
 {
-    if is_to_prepare(site.alloc(), was, head)? {
+    if is_to_prepare(site, was, head)? {
         return Ok(Look::Kept(Behind::Prepares(MOST_STEPS)));
     }
     if is_busy {
@@ -121,11 +121,11 @@ fn look_for(site: &Site, was: Behind, is_busy: bool, head: &Head) -> Result<Look
     Ok(Look::Free)
 }
 
-fn is_to_prepare(alloc: Global, was: Behind, head: &Head) -> Result<bool, AllocError>
+fn is_to_prepare(site: &Site, was: Behind, head: &Head) -> Result<bool, AllocError>
     ensures { IfOk result (λ is. is ≡ spec_is_to_prepare was head.now) }
 {
     match was {
-        Behind::Nothing => names_uploads(alloc, head),
+        Behind::Nothing => is_prepared_first(site, head),
         _ => Ok(false),
     }
 }

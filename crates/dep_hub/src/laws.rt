@@ -76,8 +76,8 @@ pub fn what_is_prepared_ends<A: Archive>()
 
 /// A request that puts or deletes files is kept back while a content of these is being sent, which is awaited then; a
 /// GET while such a request waits. So what is waited for is in the end a content that is being sent, and each step
-/// makes that shorter. Where there is nothing of the kind the next item is answered, unless a content was broken off, its
-/// uploads are hashed first, or memory ran out as it was looked at for the first time.
+/// makes that shorter. Where there is nothing of the kind the next item is answered, unless a content was broken off, it
+/// is prepared first, or memory ran out as it was looked at for the first time.
 pub fn what_is_waited_for_ends<A: Archive>()
     ensures content { (old new : AnyHub A) → AwaitsContent A.condition old new }
     ensures taker { (old new : AnyHub A) → AwaitsTaker A.condition old new }

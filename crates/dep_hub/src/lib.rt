@@ -8,10 +8,10 @@ mod hub;
 mod keeping;
 pub mod laws;
 mod pending;
+mod prepared_first;
 mod preparing;
 mod rest;
 mod sent_on;
-mod uploads;
 
 pub use connections::ConnId;
 pub use dep_exchange::{AccessLog, Archive, Arrived, Next, NoLog, ROUNDS_TO_REPLY};

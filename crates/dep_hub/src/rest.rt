@@ -19,7 +19,7 @@ pub(crate) enum Behind {
     Broken,
     /// All of it was sent, and the next request waits, which has this claim.
     Waits(Claim),
-    /// All of it was sent, and the uploads that the next request names are being hashed, in so many steps more at most.
+    /// All of it was sent, and the next request is prepared, in so many steps more at most.
     Prepares(u32),
     /// All of it was sent, and the next request is prepared for no more.
     Prepared,
