@@ -14,3 +14,4 @@ pub mod Stepping
 pub mod LookingUp
 pub mod KnownReplies
 pub mod CacheLemmas
+pub mod AheadStill

@@ -6,12 +6,14 @@ use Rattle.dep_types.specs.Maps.{Numbered}
 use Rattle.dep_types.specs.State.{State, Upload}
 use Rattle.dep_types.specs.declared.config.Config.{Config}
 use Rattle.dep_answers.specs.Performing.{IsReady}
-use Rattle.dep_answers.specs.Steps.{operation_step}
+use Rattle.dep_answers.specs.Steps.{is_head, operation_step}
 use Rattle.dep_answers.specs.declared.performed.Performed.{Performed}
 use Rattle.dep_fields.specs.declared.field.Field.{Field}
 use Rattle.dep_fields.specs.declared.field.Field.TheVariants.{Absent, Bad, Value}
 use Rattle.dep_types.specs.declared.counters.Counters.{Counters}
 use Rattle.dep_types.specs.declared.target.Resource.TheVariants.{Service}
+use Rattle.dep_types.specs.declared.target.Target.{Target}
+use Rattle.dep_answers.specs.ReadSets.{read_set_at, reads_texts}
 use Rattle.dep_decisions.specs.declared.operation.Operation.{Operation}
 use Rattle.dep_operations.specs.declared.view.View.{View}
 use Rattle.dep_types.specs.Methods.{is_safe}
@@ -66,7 +68,12 @@ has_value (Value x) = true
 has_value Absent = false
 has_value Bad = false
 
--- the request only reads, and its head speaks of no content that would be kept
+-- a reply that shows this is made of all the texts of an object's metadata
+abbrev pub shows_texts : Target → Bool
+shows_texts target = reads_texts (read_set_at target.resource (is_head target.method))
+
+-- the request only reads, not all the texts of an object's metadata, and its head speaks of no content that would be kept
 abbrev pub is_plain_read : Operation → Bool
 is_plain_read op = is_safe op.target.method
     && not (has_value op.fields.disposition) && not (has_value op.fields.content_type)
+    && not (shows_texts op.target)

@@ -21,8 +21,10 @@ use Rattle.dep_answers.specs.declared.read_set.Shown.{Shown}
 use Rattle.dep_answers.specs.declared.read_set.Shown.TheVariants.{Nothing}
 use Rattle.dep_tables.specs.Tables.{IsOurs}
 use Rattle.dep_row_maps.specs.Clauses.{FromMaps, SeesState}
-use Rattle.dep_staging.specs.HashedAhead.{AreRunning}
-use Rattle.dep_staging.specs.declared.running.RunningHashes.{RunningHashes}
+use Rattle.dep_objects.specs.Ahead.{AreRead}
+use Rattle.dep_objects.specs.declared.ahead.TextsAhead.{TextsAhead}
+use Rattle.dep_views.specs.Ahead.{IsAhead}
+use Rattle.dep_views.specs.declared.ahead.WorkAhead.{WorkAhead}
 use Rattle.dep_decisions.specs.Effects.{effect}
 use Rattle.dep_decisions.specs.declared.decision.Decision.{Decision}
 use Rattle.dep_decisions.specs.Decisions.{decision}
@@ -108,11 +110,11 @@ ShowsEffect config s op new shown =
     SeesState new (effect config s op) × (shown ≡ shown_in_reply (effect config s op) op)
 
 -- what was decided is carried out, and shown, where it was ruled rightly
-abbrev pub IsCarriedOut : (old new : db.State) → Operation → Ruled → Decision
+abbrev pub IsCarriedOut : (old new : db.State) → Operation → Ruled → Decision → TextsAhead
     → Result Shown StoreFault → Type 0
-IsCarriedOut old new op ruled decision result = FromMaps old new (λ s. (config : Config)
+IsCarriedOut old new op ruled decision texts result = FromMaps old new (λ s. (config : Config)
     → IsSound s → AreFit op.fields → SeesTruly config s op ruled → IsRuling config s op (Do decision)
-    → IfOk result (ShowsEffect config s op new))
+    → AreRead s texts → IfOk result (ShowsEffect config s op new))
 
 -- this is ready as the reply of the step, and the tables are those of the state that it leaves
 abbrev pub IsStepped : Config → State → Operation → db.State → Performed → Type 0
@@ -120,24 +122,25 @@ IsStepped config s op new performed = IsReady (operation_step config s op) perfo
     × SeesState new (operation_step config s op).state
 
 -- what was done for a request, in a transaction that showed the one database before and shows the other now
-pub record IsDone (old new : db.State) (config : Config) (op : Operation) (running : RunningHashes) (done : Done)
+pub record IsDone (old new : db.State) (config : Config) (op : Operation) (ahead : WorkAhead) (done : Done)
     : Type 0 where
-  pub map : FromMaps old new (λ s. IsSound s → AreRunning s running → AreFit op.fields
+  pub map : FromMaps old new (λ s. IsSound s → IsAhead s ahead → AreFit op.fields
       → IsStepped config s op new done.performed)
   -- nothing is changed just where it is refused, or only asks to be shown
-  pub changes : FromMaps old new (λ s. IsSound s → AreRunning s running
+  pub changes : FromMaps old new (λ s. IsSound s → IsAhead s ahead
       → done.has_changes ≡ false ↔ ChangesNothing config s op)
   pub unchanged : done.has_changes ≡ false → db.HasCleanDisk new → IsOurs old
       → db.IsUnchanged old new
   pub ours : db.HasCleanDisk new → IsTrue old.in_transaction → IsOurs old → IsOurs new
 
--- what was hashed of uploads is what was received of them, as it was before
-abbrev pub KeepsRunningHashes : (old new : db.State) → (before now : RunningHashes) → Type 0
-KeepsRunningHashes old new before now =
-    FromMaps old new (λ s. IsSound s → AreRunning s before → AreRunning s now)
+-- what was done ahead is true of the state, as it was before
+abbrev pub KeepsAhead : (old new : db.State) → (before now : WorkAhead) → Type 0
+KeepsAhead old new before now =
+    FromMaps old new (λ s. IsSound s → IsAhead s before → IsAhead s now)
 
 -- what was ruled rightly is followed
-abbrev pub FollowsRuling : (old new : db.State) → Config → Operation → Ruled → Result Performed StoreFault
-    → Type 0
-FollowsRuling old new config op ruled result = FromMaps old new (λ s. IsSound s → AreFit op.fields
-    → Rules config s op ruled → IfOk result (IsStepped config s op new))
+abbrev pub FollowsRuling : (old new : db.State) → Config → Operation → Ruled → TextsAhead
+    → Result Performed StoreFault → Type 0
+FollowsRuling old new config op ruled texts result = FromMaps old new (λ s. IsSound s
+    → AreFit op.fields → Rules config s op ruled → AreRead s texts
+    → IfOk result (IsStepped config s op new))

@@ -18,5 +18,5 @@ mod uploads;
 pub use caching::{Cache, cached, clock_still, read_still, still_known};
 pub use carrying::carry_out;
 pub use known::{known_after, row_after};
-pub use performing::{Done, answer_operation, hash_for};
+pub use performing::{Done, answer_operation, prepare};
 pub use showing::{file_shown, is_plain_read, show_service};

@@ -4,16 +4,18 @@ ghost use Rattle.std.specs.Prelude.{◌≡◌, false, Some, IsTrue, IfOk, ◌↔
 ghost use Rattle.dep_types.specs.State.{State};
 ghost use Rattle.dep_types.specs.Sound.{IsSound};
 ghost use Rattle.dep_fields.specs.Fit.{AreFit};
+ghost use Rattle.dep_answers.specs.ReadSets.{read_set_at};
+ghost use Rattle.dep_answers.specs.Steps.{is_head};
 ghost use Rattle.dep_operations.specs.Rulings.{IsRuling};
 ghost use Rattle.dep_requests.specs.Caching.{IsCacheOf, ReadsService, service_view, IsShown, is_plain_read};
 
 use crate::caching::Cache;
 use crate::performing::{Done, accept, delivery_at};
-use dep_answers::{Performed, Service, Shown, StoredFile, refused};
+use dep_answers::{Performed, ReadSet, Service, Shown, StoredFile, refused};
 use dep_decisions::{Operation, content_purpose};
 use dep_fields::Field;
 use dep_operations::{Ruling, View, decide};
-use dep_types::{List, Resource, StoreFault};
+use dep_types::{List, Method, Resource, StoreFault, Target};
 use std::alloc::Global;
 
 /// Whether the request reads the service document.
@@ -80,13 +82,22 @@ pub fn show_service(
     performed
 }
 
-/// Whether the request only reads, and its head speaks of no content that would be kept.
+/// What is read to show what is asked for, or in a bare reply for its length.
+pub(crate) fn read_set_to_show(target: &Target) -> ReadSet
+    ensures { result ≡ read_set_at target.now.resource (is_head target.now.method) }
+{
+    ReadSet::shown_by(&target.resource, target.method == Method::Head)
+}
+
+/// Whether the request only reads, not all the texts of an object's metadata, and its head speaks of no content that would be
+/// kept.
 pub fn is_plain_read(operation: &Operation<'_>) -> bool
     ensures { result ≡ is_plain_read operation.now }
 {
     operation.target.method.is_safe()
         && matches!(operation.fields.disposition, Field::Absent | Field::Bad)
         && matches!(operation.fields.content_type, Field::Absent | Field::Bad)
+        && !read_set_to_show(&operation.target).reads_texts()
 }
 
 /// The file whose content the reply has, where the request only reads.

@@ -1,4 +1,4 @@
--- What was hashed of uploads is what was received of them, as the state goes on.
+-- What was done ahead of requests stays true as the state goes on.
 use Rattle.std.proofs.Common.{◌≢◌, inl, inr, Result, Ok, Err, IsErr, IfOk, OnErr, IsTrue, arith, refl, sym, subst}
 use Rattle.std.proofs.lemmas.Result.{IfOk-weaker, on_err_weaker}
 use Rattle.sqlite.specs.State as db
@@ -11,12 +11,14 @@ use Rattle.dep_types.specs.declared.store_fault.StoreFault.{StoreFault}
 use Rattle.dep_tables.specs.Faults.{fault_for}
 use Rattle.dep_exchange.specs.ArchiveCalls.{FailsToReport}
 use Rattle.dep_types.specs.State.{State}
-use Rattle.dep_decisions.specs.Laws.{KeepsSegments}
-use Rattle.dep_staging.specs.HashedAhead.{AreRunning, IsRunning}
+use Rattle.dep_decisions.specs.Laws.{KeepsObjects, KeepsSegments}
+use Rattle.dep_staging.specs.HashedAhead.{IsRunning}
 use Rattle.dep_staging.specs.declared.running.RunningHash.{RunningHash}
-use Rattle.dep_staging.specs.declared.running.RunningHashes.{RunningHashes}
+use Rattle.dep_views.specs.Ahead.{IsAhead}
+use Rattle.dep_views.specs.declared.ahead.WorkAhead.{WorkAhead}
 use Rattle.dep_staging.proofs.AheadLemmas.{still_hashed}
-use Rattle.dep_transactions.specs.Performing.{KeepsRunning}
+use Rattle.dep_requests.proofs.AheadStill.{texts_still}
+use Rattle.dep_transactions.specs.Performing.{KeepsWorkAhead}
 use Rattle.dep_transactions.specs.States.{StoreRepresents}
 use Rattle.dep_types.specs.Conditions.{Condition, Represents, HasCleanDisk}
 use Rattle.dep_exchange.specs.Archives.{TriesTo, Always, KeepsState, KeepsAll, KeepsEachState, FailsIfShut}
@@ -35,15 +37,19 @@ still_running s t run keeps (inr begun) = inr (record {
       still_hashed before.0.segments after.segments run before.2 (begun.hashed before.0 before.1);
 })
 
-pub are_running_still : (s t : State) (runs : RunningHashes) → KeepsSegments s t → AreRunning s runs → AreRunning t runs
-are_running_still s t runs keeps are kept there = let it = are kept there in (still_running s t kept.1 keeps it.0, it.1)
+-- and what was read of an object are its texts
+pub still_ahead : (s t : State) (ahead : WorkAhead) → KeepsSegments s t → KeepsObjects s t → IsAhead s ahead → IsAhead t ahead
+still_ahead s t ahead segments objects are = record {
+  hashes = λ kept there. let it = are.hashes kept there in (still_running s t kept.1 segments it.0, it.1);
+  texts = texts_still s t ahead.texts objects are.texts;
+}
 
 -- ---- what a call leaves, as what was hashed is what was received
 
-module _ (d d' : db.State) (runs runs' : RunningHashes) where
+module _ (d d' : db.State) (runs runs' : WorkAhead) where
   -- a call of the store, from each state for which that holds
   pub tries_hashed : {A E : Type 0} (holds given : State → Type 0) (reported : State → A → Type 0) (next : State → State) (r : Result A E)
-      → ((s : State) → given s → AreRunning s runs → holds s) → KeepsRunning d d' runs runs' → ((s : State) → AreRunning s runs' → AreRunning (next s) runs')
+      → ((s : State) → given s → IsAhead s runs → holds s) → KeepsWorkAhead d d' runs runs' → ((s : State) → IsAhead s runs' → IsAhead (next s) runs')
       → TriesTo (store.shown_by d) (store.shown_by d') holds reported next r → TriesTo (shown_with_hashes d runs) (shown_with_hashes d' runs') given reported next r
   tries_hashed {A} {E} holds given reported next r knows stay go it = record {
     ok = λ clean s keeps its. IfOk-weaker r (λ answer. reported s answer × StoreRepresents d' (next s)) (λ answer. reported s answer × KeepsHashed d' runs' (next s))
@@ -55,7 +61,7 @@ module _ (d d' : db.State) (runs runs' : RunningHashes) where
   }
 
   -- a call that asks for nothing that the store keeps
-  pub keeps_hashed : KeepsRunning d d' runs runs' → KeepsAll (store.shown_by d) (store.shown_by d')
+  pub keeps_hashed : KeepsWorkAhead d d' runs runs' → KeepsAll (store.shown_by d) (store.shown_by d')
       → KeepsAll (shown_with_hashes d runs) (shown_with_hashes d' runs')
   keeps_hashed hashed it = record {
     kept = λ is_open s keeps. record { represents = it.kept is_open s keeps.represents; hashed = hashed is_open s keeps.represents keeps.hashed };
@@ -68,7 +74,7 @@ module _ (d d' : db.State) (runs runs' : RunningHashes) where
   shut_hashed r it = record { opened = it.opened; left = λ clean shut image h. (image, it.left clean shut image h, λ s. (λ x. x, λ x. x)) }
 
 -- one that keeps the state, and hashes nothing
-pub state_hashed : {A E : Type 0} (d d' : db.State) (runs : RunningHashes) (r : Result A E) → KeepsState (store.shown_by d) (store.shown_by d') r → KeepsState (shown_with_hashes d runs) (shown_with_hashes d' runs) r
+pub state_hashed : {A E : Type 0} (d d' : db.State) (runs : WorkAhead) (r : Result A E) → KeepsState (store.shown_by d) (store.shown_by d') r → KeepsState (shown_with_hashes d runs) (shown_with_hashes d' runs) r
 state_hashed d d' runs r it = tries_hashed d d' runs runs Always Always (λ s answer. Unit {0}) (λ s. s) r (λ s its are. tt) (λ is_open s represents are. are) (λ s are. are) it
 
 -- it failed as another call did

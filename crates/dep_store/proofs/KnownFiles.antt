@@ -21,24 +21,24 @@ use Rattle.dep_answers.specs.Steps.{Stepped, operation_step, step_by}
 use Rattle.dep_answers.specs.declared.performed.Performed.{Performed}
 use Rattle.dep_answers.specs.declared.performed.StoredFile.{StoredFile}
 use Rattle.dep_requests.specs.declared.performing.Done.{Done}
-use Rattle.dep_staging.specs.declared.running.RunningHashes.{RunningHashes}
-use Rattle.dep_transactions.specs.Performing.{KeepsRunning, StepsAlone, StepsOver, ReportsChanges, IsBackUnchanged}
+use Rattle.dep_views.specs.declared.ahead.WorkAhead.{WorkAhead}
+use Rattle.dep_transactions.specs.Performing.{KeepsWorkAhead, StepsAlone, StepsOver, ReportsChanges, IsBackUnchanged}
 use Rattle.dep_transactions.specs.States.{StoreRepresents}
 use Rattle.dep_transactions.specs.Transactions.{FindsOpen, Transacts}
 use Rattle.dep_transactions.proofs.Transacting.{IsSettled, after_back, given_back_then}
 use Rattle.dep_schema.proofs.Streams.{IsSized}
-use Rattle.dep_requests.specs.Caching.{has_value, is_plain_read}
+use Rattle.dep_requests.specs.Caching.{has_value, is_plain_read, shows_texts}
 use Rattle.dep_store.specs.Caching.{IsOfSize}
 use Rattle.dep_store.specs.Shut.{StoreFailsIfShut}
 use Rattle.dep_store.proofs.ShutLemmas.{state_back, was_open_then}
 
 -- ---- a request that only reads, and tells of no content
 
-all_true : (a b c : Bool) → (a && b && c) ≡ true → (a ≡ true) × (b ≡ true) × (c ≡ true)
-all_true true true true h = (refl, refl, refl)
-all_true true true false h = cc h
-all_true true false c h = cc h
-all_true false b c h = cc h
+all_true : (a b c d : Bool) → (a && b && c && d) ≡ true → (a ≡ true) × (b ≡ true) × (c ≡ true)
+all_true true true true d h = (refl, refl, refl)
+all_true true true false d h = cc h
+all_true true false c d h = cc h
+all_true false b c d h = cc h
 
 no_value : {X : Type 0} (P : X → Type 0) (field : Field X) → not (has_value field) ≡ true → IfValue field P
 no_value P (Value x) h = cc h
@@ -47,7 +47,7 @@ no_value P Bad h = tt
 
 pub plain_reads : (op : Operation) → IsTrue (is_plain_read op) → IsTrue (is_safe op.target.method) × AreFit op.fields
 plain_reads op plain =
-    let all = all_true (is_safe op.target.method) (not (has_value op.fields.disposition)) (not (has_value op.fields.content_type)) plain in
+    let all = all_true (is_safe op.target.method) (not (has_value op.fields.disposition)) (not (has_value op.fields.content_type)) (not (shows_texts op.target)) plain in
     (all.0, record { kind = no_value _ op.fields.disposition all.1; media = no_value _ op.fields.content_type all.2 })
 
 by_rule : (config : Config) (s : State) (op : Operation) → IsTrue (is_safe op.target.method) → (found : Option Refusal) → (step_by config s op found).state ≡ s
@@ -93,20 +93,20 @@ shows_file old new config op result it plain clean s represents =
 
 -- on a store that was shut it fails, else it is one transaction, given back where nothing was changed, and shows a file that is there
 pub record PerformsIfOpen (old new : db.State) (result : Result Done StoreFault) (config : Config)
-    (op : Operation) (running later : RunningHashes) : Type 0 where
+    (op : Operation) (ahead later : WorkAhead) : Type 0 where
   pub shut : StoreFailsIfShut old new result
-  pub transacts : Transacts old new result (StepsOver config op running)
-  pub changes : ReportsChanges old new result config op running
-  pub hashed : KeepsRunning old new running later
+  pub transacts : Transacts old new result (StepsOver config op ahead)
+  pub changes : ReportsChanges old new result config op ahead
+  pub hashed : KeepsWorkAhead old new ahead later
   pub back : IsBackUnchanged old new result
   pub shows : ShowsFile old new result op
 
-pub performs : (old mid new : db.State) (config : Config) (op : Operation) (running later : RunningHashes) (result : Result Done StoreFault)
+pub performs : (old mid new : db.State) (config : Config) (op : Operation) (ahead later : WorkAhead) (result : Result Done StoreFault)
     → (IsTrue old.is_open → IsSettled old) → (IsTrue mid.is_open → HasCleanDisk mid) → FindsOpen {A = Unit {0}} {E = StoreFault} old mid (Ok tt)
-    → KeepsRunning mid new running later → ShowsFile mid new result op
-    → Transacts mid new result (StepsOver config op running) → ReportsChanges mid new result config op running → IsBackUnchanged mid new result
-    → PerformsIfOpen old new result config op running later
-performs old mid new config op running later result settled shut found keeps shows does changes unchanged =
+    → KeepsWorkAhead mid new ahead later → ShowsFile mid new result op
+    → Transacts mid new result (StepsOver config op ahead) → ReportsChanges mid new result config op ahead → IsBackUnchanged mid new result
+    → PerformsIfOpen old new result config op ahead later
+performs old mid new config op ahead later result settled shut found keeps shows does changes unchanged =
     let back = found.restored.back in
     let opened = λ (clean : HasCleanDisk new). found.opened (does.honest clean) in
     let represents = λ (clean : HasCleanDisk new) (s : State) (was : StoreRepresents old s). state_back old mid s back (opened clean) was in

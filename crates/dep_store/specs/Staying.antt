@@ -5,9 +5,9 @@ use Rattle.sqlite.specs.Tree.{Trees}
 use Rattle.dep_types.specs.State.{State}
 use Rattle.dep_tables.specs.Tables.{Tables}
 use Rattle.dep_exchange.specs.Archives.{KeepsAll}
-use Rattle.dep_staging.specs.declared.running.RunningHashes.{RunningHashes}
+use Rattle.dep_views.specs.declared.ahead.WorkAhead.{WorkAhead}
 use Rattle.dep_transactions.specs.OpenTables.{Holds, StaysFile}
-use Rattle.dep_transactions.specs.Performing.{KeepsRunning}
+use Rattle.dep_transactions.specs.Performing.{KeepsWorkAhead}
 use Rattle.dep_transactions.specs.States.{StoreRepresents, DatabaseLeaves}
 use Rattle.dep_store.specs.Archive.{shown_by}
 
@@ -21,8 +21,8 @@ LeavesOnly old new = db.HasCleanDisk new → (trees : Trees) → new.may_leave t
     → old.may_leave trees
 
 -- what was hashed of uploads is what was received of them still, and nothing that is kept changes
-pub record HashesOn (old new : db.State) (before after : RunningHashes) : Type 0 where
-  pub running : KeepsRunning old new before after
+pub record HashesOn (old new : db.State) (before after : WorkAhead) : Type 0 where
+  pub ahead : KeepsWorkAhead old new before after
   pub rests : KeepsAll (shown_by old) (shown_by new)
   pub left : LeavesOnly old new
 

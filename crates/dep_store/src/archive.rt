@@ -4,7 +4,7 @@
 ghost use Rattle.std.specs.Prelude.{◌≡◌, false, is_some, IsTrue};
 ghost use Rattle.sqlite.proofs.StateLemmas.{clean_if_open};
 ghost use Rattle.dep_types.specs.State.{State};
-ghost use Rattle.dep_staging.specs.HashedAhead.{AreRunning};
+ghost use Rattle.dep_views.specs.Ahead.{IsAhead};
 ghost use Rattle.dep_transactions.proofs.Transacting.{leaves_as_was};
 ghost use Rattle.dep_exchange.specs.ArchiveCalls.{Runs, WorkedAhead};
 ghost use Rattle.dep_exchange.specs.Archives.{CommitsIfDue, KeepsEachState};
@@ -17,8 +17,8 @@ use dep_answers::{Performed, Service, StoredFile};
 use dep_decisions::Operation;
 use dep_exchange::{Archive, Rest};
 use dep_moment::Moment;
-use dep_staging::RunningHashes;
 use dep_types::{Config, Method, Outlet, Resource, StoreFault, StreamFault};
+use dep_views::WorkAhead;
 use sqlite::{Alter, Connection};
 use std::alloc::Global;
 
@@ -26,7 +26,7 @@ use std::alloc::Global;
 #[derive(Drop)]
 pub struct HashingStore<S: Alter> {
     store: Store<S>,
-    running: RunningHashes,
+    ahead: WorkAhead,
     /// Whether a block may be left that can be hashed, or an upload that wasn't looked at since the store was opened.
     is_due: bool,
     log_copy: LogCopy,
@@ -36,12 +36,12 @@ impl<S: Alter> HashingStore<S> {
     /// A store of whose uploads nothing is hashed yet.
     pub fn new(alloc: Global, store: Store<S>) -> HashingStore<S>
         ensures store { result.store ≡ store }
-        ensures running { (s : State) → AreRunning s result.running }
+        ensures ahead { (s : State) → IsAhead s result.ahead }
         ensures commits { may_commit result ≡ false }
     {
         HashingStore {
             store,
-            running: RunningHashes::new(alloc),
+            ahead: WorkAhead::new(alloc),
             is_due: true,
             log_copy: LogCopy::NotDue,
         }
@@ -61,21 +61,17 @@ impl<S: Alter> HashingStore<S> {
 }
 
 /// Notes the upload to which the request sent a segment, if it sent one that was kept. Returns whether it did.
-fn note_segment(
-    running: &mut RunningHashes,
-    operation: &Operation<'_>,
-    performed: &Performed,
-) -> bool
-    ensures running { (s : State) → AreRunning s running.old → AreRunning s running.new }
+fn note_segment(ahead: &mut WorkAhead, operation: &Operation<'_>, performed: &Performed) -> bool
+    ensures ahead { (s : State) → IsAhead s ahead.old → IsAhead s ahead.new }
     ensures refused { IsTrue (is_some performed.now.refusal)
-        → (running.new ≡ running.old) × (result ≡ false) }
+        → (ahead.new ≡ ahead.old) × (result ≡ false) }
 {
     if performed.refusal.is_some() {
         return false;
     }
     match (operation.target.method, &operation.target.resource) {
         (Method::Post, Resource::Upload(upload)) => {
-            running.note(*upload);
+            ahead.hashes.note(*upload);
             true
         }
         _ => false,
@@ -99,8 +95,8 @@ impl<S: Alter> Archive for HashingStore<S> {
         service: &Service,
         operation: &Operation<'_>,
     ) -> Result<Performed, StoreFault> {
-        let performed = self.store.perform(&mut self.running, service, operation)?;
-        self.is_due |= note_segment(&mut self.running, operation, &performed);
+        let performed = self.store.perform(&mut self.ahead, service, operation)?;
+        self.is_due |= note_segment(&mut self.ahead, operation, &performed);
         self.log_copy.note(operation, &performed);
         Ok(performed)
     }
@@ -149,13 +145,13 @@ impl<S: Alter> Archive for HashingStore<S> {
         if let Some(operation) = next {
             let hashed = self
                 .store
-                .hash_for(&mut self.running, service.config(), operation);
+                .prepare(&mut self.ahead, service.config(), operation);
             return hashed.unwrap_or(false);
         }
         if !self.is_due {
             return false;
         }
-        self.is_due = self.store.hash_ahead(&mut self.running).unwrap_or(false);
+        self.is_due = self.store.hash_ahead(&mut self.ahead).unwrap_or(false);
         self.is_due
     }
 

@@ -3,18 +3,19 @@
 ghost use Rattle.std.specs.Prelude.{◌≡◌, false, Result};
 ghost use Rattle.sqlite.specs.Held.{state};
 ghost use Rattle.dep_types.specs.State.{State};
-ghost use Rattle.dep_staging.specs.HashedAhead.{AreRunning};
+ghost use Rattle.dep_views.specs.Ahead.{IsAhead};
 ghost use Rattle.dep_types.specs.declared.store_fault.StoreFault.{StoreFault};
 ghost use Rattle.dep_tables.specs.Clauses.{StaysWithin};
 ghost use Rattle.dep_store.specs.ReadTransactions.{GivesBack, ReportsFrom, ReadsOpen};
 
 use dep_decisions::Operation;
 use dep_files::find_file;
-use dep_requests::hash_for;
-use dep_staging::{RunningHashes, hash_ahead, next_bytes};
+use dep_requests::prepare;
+use dep_staging::{hash_ahead, next_bytes};
 use dep_tables::Statements;
 use dep_transactions::{Lent, check_open};
 use dep_types::{Config, FileRow, StoreFault};
+use dep_views::WorkAhead;
 use sqlite::{Alter, Connection};
 use std::alloc::Global;
 
@@ -64,39 +65,39 @@ pub(crate) fn read_if_open<S: Alter, K: ReadTransaction>(
 }
 
 /// A few blocks of uploads are hashed, before an object is made of them. Returns whether more may be left.
-impl ReadTransaction for RunningHashes {
-    ghost use Rattle.dep_staging.specs.HashedAhead.{AreRunning};
+impl ReadTransaction for WorkAhead {
+    ghost use Rattle.dep_views.specs.Ahead.{IsAhead};
 
     type Answer = bool;
 
-    ghost reported = { λ before after more s. AreRunning s before → AreRunning s after };
+    ghost reported = { λ before after more s. IsAhead s before → IsAhead s after };
 
     fn read<T: Statements>(&mut self, tx: &mut T) -> Result<bool, StoreFault> {
-        hash_ahead(tx, self)
+        hash_ahead(tx, &mut self.hashes)
     }
 }
 
-/// A part of the uploads that references in a request name is hashed. Returns whether more may be left.
+/// A part of what the answer to a request needs is done. Returns whether more may be left.
 #[derive(Drop)]
-pub(crate) struct NamedHashes<'a> {
+pub(crate) struct Preparation<'a> {
     pub(crate) alloc: Global,
-    pub(crate) running: &'a mut RunningHashes,
+    pub(crate) ahead: &'a mut WorkAhead,
     pub(crate) config: &'a Config,
     pub(crate) operation: &'a Operation<'a>,
 }
 
-impl ReadTransaction for NamedHashes<'_> {
+impl ReadTransaction for Preparation<'_> {
     ghost use Rattle.std.specs.Prelude.{◌≡◌};
-    ghost use Rattle.dep_staging.specs.HashedAhead.{AreRunning};
+    ghost use Rattle.dep_views.specs.Ahead.{IsAhead};
 
     type Answer = bool;
 
     // What is lent is the same after it.
-    ghost reported = { λ before after more s. (after.running.ghost_name ≡ before.running.ghost_name)
-        × (AreRunning s before.running.now → AreRunning s after.running.now) };
+    ghost reported = { λ before after more s. (after.ahead.ghost_name ≡ before.ahead.ghost_name)
+        × (IsAhead s before.ahead.now → IsAhead s after.ahead.now) };
 
     fn read<T: Statements>(&mut self, tx: &mut T) -> Result<bool, StoreFault> {
-        hash_for(tx, self.alloc, self.running, self.config, self.operation)
+        prepare(tx, self.alloc, self.ahead, self.config, self.operation)
     }
 }
 

@@ -9,9 +9,9 @@ ghost use Rattle.dep_bag.specs.Source.{view_at};
 ghost use Rattle.dep_answers.specs.Steps.{operation_step};
 ghost use Rattle.dep_row_maps.specs.Keyed.{next_entry};
 ghost use Rattle.dep_tables.specs.Edits.{IsObjectAfter};
-ghost use Rattle.dep_staging.specs.HashedAhead.{AreRunning};
+ghost use Rattle.dep_views.specs.Ahead.{IsAhead};
 ghost use Rattle.dep_transactions.specs.States.{StoreRepresents, DatabaseLeaves};
-ghost use Rattle.dep_transactions.specs.Performing.{IsKeptUnchanged, KeepsRunning};
+ghost use Rattle.dep_transactions.specs.Performing.{IsKeptUnchanged, KeepsWorkAhead};
 ghost use Rattle.dep_store.specs.Causes.{OpensFor, RefusesFor};
 ghost use Rattle.dep_store.specs.Migrating.{FindsOlder, FindsState, FindsTables, StillRepresents, KeepsTables, OfEither, OpenLeaves, RefusesNoState, RefusesNone, StartsEmpty};
 ghost use Rattle.dep_exchange.specs.Shut.{ReportsOpen};
@@ -25,7 +25,7 @@ ghost use Rattle.dep_store.specs.Staying.{TablesStay, ReportsTables, LeavesOnly,
 
 use crate::caching::{Known, Still, reported_by};
 use crate::migrating::migrate;
-use crate::read_transaction::{NamedHashes, read_if_open, read_in_transaction};
+use crate::read_transaction::{Preparation, read_if_open, read_in_transaction};
 use crate::reading::{NextObject, ViewObject};
 use crate::sending::stream_known;
 use crate::sending_on::{SendingPlace, find_size, send_on};
@@ -36,9 +36,9 @@ use dep_decisions::Operation;
 use dep_moment::Moment;
 use dep_requests::{cached, clock_still, file_shown, show_service, still_known};
 use dep_schema::{Audit, OpenFault, Schema, Watch, audit_files};
-use dep_staging::RunningHashes;
 use dep_transactions::{check_open, perform_request, probe};
 use dep_types::{Config, ObjectView, Outlet, StoreFault, StreamFault};
+use dep_views::WorkAhead;
 use sqlite::{Alter, Connection};
 use std::alloc::Global;
 use std::marker::Model;
@@ -167,19 +167,19 @@ impl<S: Alter> Store<S> {
     /// nothing. Segments that were hashed before aren't hashed again, and what is hashed for the request stays known.
     pub fn perform(
         &mut self,
-        running: &mut RunningHashes,
+        ahead: &mut WorkAhead,
         service: &Service,
         operation: &Operation<'_>,
     ) -> Result<Performed, StoreFault>
         ensures does { MakesStep (condition_of S.Store self.old) (condition_of S.Store self.new)
-            (λ s. AreFit operation.now.fields × AreRunning s running.old)
+            (λ s. AreFit operation.now.fields × IsAhead s ahead.old)
             (λ s. operation_step service.now s operation.now) result }
         // What is refused, and what only shows, commits nothing and leaves the database as it was.
         ensures unchanged { IsKeptUnchanged (state S.Store self.old) (state S.Store self.new) result
-            service.now operation.now running.old }
+            service.now operation.now ahead.old }
         // What was hashed stays what was received, also where the request is refused or fails.
-        ensures running { KeepsRunning (state S.Store self.old) (state S.Store self.new)
-            running.old running.new }
+        ensures ahead { KeepsWorkAhead (state S.Store self.old) (state S.Store self.new)
+            ahead.old ahead.new }
         // On a store that was shut it fails, and a crash leaves what it could leave before.
         ensures shut { StoreFailsIfShut (state S.Store self.old) (state S.Store self.new) result }
     {
@@ -192,13 +192,7 @@ impl<S: Alter> Store<S> {
         let known = self.known;
         self.known = Known::NOTHING;
         check_open(&mut self.connection)?;
-        let done = perform_request(
-            &mut self.connection,
-            self.alloc,
-            running,
-            service,
-            operation,
-        )?;
+        let done = perform_request(&mut self.connection, self.alloc, ahead, service, operation)?;
         self.known.cache = still_known(known.cache, done.has_changes);
         self.known.shown = file_shown(operation, &done);
         Ok(done.performed)
@@ -206,30 +200,31 @@ impl<S: Alter> Store<S> {
 
     /// Hashes a few blocks of an upload to which a segment came, or looks for the next one that was there before, and
     /// returns whether more may be left. It changes nothing that is kept.
-    pub fn hash_ahead(&mut self, running: &mut RunningHashes) -> Result<bool, StoreFault>
+    pub fn hash_ahead(&mut self, ahead: &mut WorkAhead) -> Result<bool, StoreFault>
         ensures { HashesOn (state S.Store self.old) (state S.Store self.new)
-            running.old running.new }
+            ahead.old ahead.new }
     {
         self.known = Known::NOTHING;
-        read_in_transaction(&mut self.connection, running)
+        read_in_transaction(&mut self.connection, ahead)
     }
 
-    /// Hashes a part of the uploads that references in a request name, before it is answered, and returns whether more may be
-    /// left: up to 16 blocks (1 MiB). Nothing is hashed for a request that is refused whatever they are. It changes nothing
+    /// Does a part of what the answer to a request needs, before it is answered, and returns whether more may be left: up to 16
+    /// blocks (1 MiB) of the uploads that references in it name are hashed, or some of the texts of an object's metadata that
+    /// its reply is made of are read. Nothing is hashed for a request that is refused whatever they are. It changes nothing
     /// that is kept.
-    pub fn hash_for(
+    pub fn prepare(
         &mut self,
-        running: &mut RunningHashes,
+        ahead: &mut WorkAhead,
         config: &Config,
         operation: &Operation<'_>,
     ) -> Result<bool, StoreFault>
         ensures { HashesOn (state S.Store self.old) (state S.Store self.new)
-            running.old running.new }
+            ahead.old ahead.new }
     {
         self.known = Known::NOTHING;
-        let mut asked = NamedHashes {
+        let mut asked = Preparation {
             alloc: self.alloc,
-            running,
+            ahead,
             config,
             operation,
         };

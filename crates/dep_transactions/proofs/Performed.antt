@@ -24,27 +24,27 @@ use Rattle.dep_transactions.specs.OpenTables.{StaysFile}
 use Rattle.dep_row_maps.specs.Clauses.{FromMaps}
 use Rattle.dep_requests.proofs.Stepping.{step_sound}
 use Rattle.dep_transactions.specs.States.{StoreRepresents}
-use Rattle.dep_staging.specs.HashedAhead.{AreRunning}
-use Rattle.dep_staging.specs.declared.running.RunningHashes.{RunningHashes}
+use Rattle.dep_views.specs.Ahead.{IsAhead}
+use Rattle.dep_views.specs.declared.ahead.WorkAhead.{WorkAhead}
 use Rattle.dep_requests.specs.Performing as within
 use Rattle.dep_requests.specs.Performing.{ChangesNothing, IsDone, IsStepped}
-use Rattle.dep_transactions.specs.Performing.{KeepsRunning, StepsAlone, StepsOver, ReportsChanges, IsBackUnchanged}
+use Rattle.dep_transactions.specs.Performing.{KeepsWorkAhead, StepsAlone, StepsOver, ReportsChanges, IsBackUnchanged}
 use Rattle.dep_transactions.specs.Transactions.{Transacts, FailsToEnd, FindsOpen, IsBackAt, IsGivenBack}
 use Rattle.dep_transactions.proofs.Transacting.{IsMade, Works, back_by_rollback, back_then, committed, fails_back, given_back, none_by_rollback, none_then, uncommitted}
 
 -- of the transaction that was begun it tells that of the connection
-pub worked_on : {S : Type 0} {begun : Held S} (g : Ghosts S) (old inside : Held S) (config : Config) (op : Operation) (running : RunningHashes) (p : Done)
-    → begun ≡ record old { in_transaction = true } → IsDone (state g begun) (state g inside) config op running p
-    → IsDone (state g (record old { in_transaction = true })) (state g inside) config op running p
-worked_on {S = S} g old inside config op running p is it = subst (λ (h : Held S). IsDone (state g h) (state g inside) config op running p) is it
+pub worked_on : {S : Type 0} {begun : Held S} (g : Ghosts S) (old inside : Held S) (config : Config) (op : Operation) (ahead : WorkAhead) (p : Done)
+    → begun ≡ record old { in_transaction = true } → IsDone (state g begun) (state g inside) config op ahead p
+    → IsDone (state g (record old { in_transaction = true })) (state g inside) config op ahead p
+worked_on {S = S} g old inside config op ahead p is it = subst (λ (h : Held S). IsDone (state g h) (state g inside) config op ahead p) is it
 
 -- a request inside a transaction keeps the state sound
-pub works : {S : Type 0} (g : Ghosts S) (old inside : Held S) (config : Config) (op : Operation) (running : RunningHashes) (p : Done)
+pub works : {S : Type 0} (g : Ghosts S) (old inside : Held S) (config : Config) (op : Operation) (ahead : WorkAhead) (p : Done)
     → FromMaps (state g (record old { in_transaction = true })) (state g inside)
-    (λ s. IsSound s → AreRunning s running → AreFit op.fields → IsStepped config s op (state g inside) p.performed)
+    (λ s. IsSound s → IsAhead s ahead → AreFit op.fields → IsStepped config s op (state g inside) p.performed)
     → (HasCleanDisk (state g inside) → IsTrue true → IsOurs (state g (record old { in_transaction = true })) → IsOurs (state g inside))
-    → IsMade our_schema our_schema g old inside (StepsOver config op running) p
-works g old inside config op running p reported ours clean are_ours = (
+    → IsMade our_schema our_schema g old inside (StepsOver config op ahead) p
+works g old inside config op ahead p reported ours clean are_ours = (
   ours clean refl are_ours,
   λ fit s means its.
       let it = reported clean refl are_ours s means.are means.sound its fit in
@@ -59,12 +59,12 @@ reported_inside {S = S} g old inside new P Leaves reported survives last same cl
     reported (omega (arith, then, survives.clean)) refl represents.represents.ours s (subst (λ (t : Tables). TablesAre t s) (sym represents.represents.rows) represents.means.are)
 
 -- what was hashed stays what was received, also where the transaction ends
-pub keeps_running : {S : Type 0} {begun : Held S} (g : Ghosts S) (old inside new : Held S) (runs later : RunningHashes) (Leaves : Trees → Type 0) → begun ≡ record old { in_transaction = true }
-    → within.KeepsRunningHashes (state g begun) (state g inside) runs later → Survives (state g inside) (state g new) Leaves
-    → (IsTrue (state g new).is_open → HasCleanDisk (state g new)) → (last : Held S) → new ≡ last → KeepsRunning (state g old) (state g last) runs later
-keeps_running {S = S} g old inside new runs later Leaves is reported survives shut last same is_open s represents are =
+pub keeps_ahead : {S : Type 0} {begun : Held S} (g : Ghosts S) (old inside new : Held S) (runs later : WorkAhead) (Leaves : Trees → Type 0) → begun ≡ record old { in_transaction = true }
+    → within.KeepsAhead (state g begun) (state g inside) runs later → Survives (state g inside) (state g new) Leaves
+    → (IsTrue (state g new).is_open → HasCleanDisk (state g new)) → (last : Held S) → new ≡ last → KeepsWorkAhead (state g old) (state g last) runs later
+keeps_ahead {S = S} g old inside new runs later Leaves is reported survives shut last same is_open s represents are =
     let clean : HasCleanDisk (state g last) = subst (λ (h : Held S). IsTrue (state g h).is_open → HasCleanDisk (state g h)) same shut is_open in
-    reported_inside g old inside new (λ s. IsSound s → AreRunning s runs → AreRunning s later) Leaves (subst (λ (h : Held S). within.KeepsRunningHashes (state g h) (state g inside) runs later) is reported)
+    reported_inside g old inside new (λ s. IsSound s → IsAhead s runs → IsAhead s later) Leaves (subst (λ (h : Held S). within.KeepsAhead (state g h) (state g inside) runs later) is reported)
     survives last same clean s represents represents.means.sound are
 
 -- the tables are those that were there, where nothing was changed
@@ -78,9 +78,9 @@ works_still g old inside new last Made done made still survives more clean t rep
     subst (λ (left : Tables). Made t done left) same (subst (λ (was : Tables). Made was done (tables_of (state g inside))) represents.rows after)
 
 -- what was done with less that was hashed ahead
-pub done_with : (old new : db.State) (config : Config) (op : Operation) (needed running : RunningHashes) (done : Done) → ((s : State) → AreRunning s running → AreRunning s needed)
-    → IsDone old new config op needed done → IsDone old new config op running done
-done_with old new config op needed running done need it = record {
+pub done_with : (old new : db.State) (config : Config) (op : Operation) (needed ahead : WorkAhead) (done : Done) → ((s : State) → IsAhead s ahead → IsAhead s needed)
+    → IsDone old new config op needed done → IsDone old new config op ahead done
+done_with old new config op needed ahead done need it = record {
   map = λ clean within ours s are sound hashed fit. it.map clean within ours s are sound (need s hashed) fit;
   changes = λ clean within ours s are sound hashed. it.changes clean within ours s are sound (need s hashed);
   unchanged = it.unchanged;
@@ -88,7 +88,7 @@ done_with old new config op needed running done need it = record {
 }
 
 -- of what was hashed ahead nothing was needed
-pub transacts_alone : (old new : db.State) (config : Config) (op : Operation) (none : RunningHashes) (result : Result Done StoreFault) → ((s : State) → AreRunning s none)
+pub transacts_alone : (old new : db.State) (config : Config) (op : Operation) (none : WorkAhead) (result : Result Done StoreFault) → ((s : State) → IsAhead s none)
     → Transacts old new result (StepsOver config op none) → Transacts old new result (StepsAlone config op)
 transacts_alone old new config op none result any it = record {
   ok = λ clean t represents. IfOk-weaker result _ _ (λ (done : Done) made. (made.0, made.1, alone t done made.0 made.2)) (it.ok clean t represents);
@@ -105,19 +105,19 @@ transacts_alone old new config op none result any it = record {
     alone t done after made = λ fit s means. made fit s means (any s)
 
 -- what a request leaves, and what is returned of it
-pub record IsPerformed (old new : db.State) (config : Config) (op : Operation) (running : RunningHashes) (result : Result Done StoreFault) : Type 0 where
-  pub transacts : Transacts old new result (StepsOver config op running)
-  pub changes : ReportsChanges old new result config op running
+pub record IsPerformed (old new : db.State) (config : Config) (op : Operation) (ahead : WorkAhead) (result : Result Done StoreFault) : Type 0 where
+  pub transacts : Transacts old new result (StepsOver config op ahead)
+  pub changes : ReportsChanges old new result config op ahead
   pub back : IsBackUnchanged old new result
 
-module _ {S : Type 0} (g : Ghosts S) (old inside : Held S) (config : Config) (op : Operation) (running : RunningHashes) (done : Done)
-    (worked : IsDone (state g (record old { in_transaction = true })) (state g inside) config op running done) where
+module _ {S : Type 0} (g : Ghosts S) (old inside : Held S) (config : Config) (op : Operation) (ahead : WorkAhead) (done : Done)
+    (worked : IsDone (state g (record old { in_transaction = true })) (state g inside) config op ahead done) where
   -- it tells of a state that nothing was changed just where that is so
   abbrev Reports : State → Type 0
-  Reports s = IsSound s → AreRunning s running → done.has_changes ≡ false ↔ ChangesNothing config s op
+  Reports s = IsSound s → IsAhead s ahead → done.has_changes ≡ false ↔ ChangesNothing config s op
 
-  made : IsMade our_schema our_schema g old inside (StepsOver config op running) done
-  made = works g old inside config op running done worked.map worked.ours
+  made : IsMade our_schema our_schema g old inside (StepsOver config op ahead) done
+  made = works g old inside config op ahead done worked.map worked.ours
 
   -- where something was changed, it was committed, or its commit failed
   pub by_commit : (new : Held S) (r : Result ⊤ StoreFault) → Works g old inside new
@@ -125,14 +125,14 @@ module _ {S : Type 0} (g : Ghosts S) (old inside : Held S) (config : Config) (op
       → (HasCleanDisk (state g new) → OnOk r (Commits (state g inside) (state g new)))
       → (HasCleanDisk (state g new) → IfErr r (FailsToEnd (state g inside) (state g new)))
       → Survives (state g inside) (state g new) (λ trees. trees ≡ (state g inside).now.trees) → done.has_changes ≡ true
-      → (last : Held S) → new ≡ last → IsPerformed (state g old) (state g last) config op running (result_and r (Ok done))
+      → (last : Held S) → new ≡ last → IsPerformed (state g old) (state g last) config op ahead (result_and r (Ok done))
   by_commit new (Ok ended) work goes_on commits fails survives changed last same = record {
-    transacts = committed g old inside new (StepsOver config op running) done work made commits survives last same;
+    transacts = committed g old inside new (StepsOver config op ahead) done work made commits survives last same;
     changes = λ clean s represents ran. reported_inside g old inside new Reports (λ trees. trees ≡ (state g inside).now.trees) worked.changes survives last same clean s represents represents.means.sound ran;
     back = λ none. absurd (both_ways done.has_changes none changed);
   }
   by_commit new (Err fault) work goes_on commits fails survives changed last same = record {
-    transacts = uncommitted g old inside new (StepsOver config op running) done fault work made goes_on fails survives last same;
+    transacts = uncommitted g old inside new (StepsOver config op ahead) done fault work made goes_on fails survives last same;
     changes = λ clean s represents ran. tt;
     back = tt;
   }
@@ -141,7 +141,7 @@ module _ {S : Type 0} (g : Ghosts S) (old inside : Held S) (config : Config) (op
   pub by_rollback : (mid last new : Held S) → mid ≡ last → (r : Result ⊤ StoreFault) → Works g old inside mid
       → (HasCleanDisk (state g mid) → IsRolledBack (state g inside) (state g mid)) → Survives (state g inside) (state g mid) (λ _. ⊥)
       → (IsTrue (state g old).is_open → (state g old).now ≡ (state g old).committed) → FindsOpen (state g last) (state g new) r → done.has_changes ≡ false
-      → IsPerformed (state g old) (state g new) config op running (result_and r (Ok done))
+      → IsPerformed (state g old) (state g new) config op ahead (result_and r (Ok done))
   by_rollback mid last new same r work undone survives between found none =
       let back = back_then (state g old) (state g last) (state g new) (back_by_rollback g old inside mid work undone survives between last same) found.restored.back in
       let nothing = none_then (state g old) (state g last) (state g new) (none_by_rollback g old inside mid work survives last same) found.restored.survives in
@@ -151,17 +151,17 @@ module _ {S : Type 0} (g : Ghosts S) (old inside : Held S) (config : Config) (op
       later = subst (λ (h : Held S). Survives (state g h) (state g new) (λ _. ⊥)) (sym same) found.restored.survives
 
       reported : (r : Result ⊤ StoreFault) → IsBackAt (state g old) (state g new) → Survives (state g old) (state g new) (λ _. ⊥)
-          → (HasCleanDisk (state g new) → OnOk r (IsTrue (state g new).is_open)) → IsPerformed (state g old) (state g new) config op running (result_and r (Ok done))
+          → (HasCleanDisk (state g new) → OnOk r (IsTrue (state g new).is_open)) → IsPerformed (state g old) (state g new) config op ahead (result_and r (Ok done))
       reported (Ok open_still) back nothing opened =
           let given : IsGivenBack (state g old) (state g new) = record { opened = opened; back = back; survives = nothing } in
           record {
-            transacts = given_back (state g old) (state g new) done (StepsOver config op running) work.settled given
-                (works_still g old inside mid new (StepsOver config op running) done made (worked.unchanged none) survives later);
+            transacts = given_back (state g old) (state g new) done (StepsOver config op ahead) work.settled given
+                (works_still g old inside mid new (StepsOver config op ahead) done made (worked.unchanged none) survives later);
             changes = λ clean s represents ran. reported_inside g old inside new Reports (λ _. ⊥) worked.changes (none_then (state g inside) (state g mid) (state g new) survives later) new refl clean s represents represents.means.sound ran;
             back = λ unchanged. given;
           }
       reported (Err fault) back nothing opened = record {
-        transacts = fails_back (state g old) (state g new) (Err fault) (StepsOver config op running) refl work.settled back nothing;
+        transacts = fails_back (state g old) (state g new) (Err fault) (StepsOver config op ahead) refl work.settled back nothing;
         changes = λ clean s represents ran. tt;
         back = tt;
       }

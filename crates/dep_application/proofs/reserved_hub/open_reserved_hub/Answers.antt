@@ -44,10 +44,10 @@ returns-in-Ok-hub_over g c =
     let honest_before : HasCleanDisk (state g.S.Store c.in-Ok-hub_over.hub.store.archive.store) → HasCleanDisk (state g.S.Store c.in-Ok.store) =
     subst (λ (h : Held _). HasCleanDisk (state g.S.Store h)) (ap (λ (a : HashingStore _). a.store) made.kept ∙ begun.store) in
     let keeps : (s : State) → StoreRepresents (state g.S.Store c.in-Ok.store) s
-    → KeepsHashed (state g.S.Store c.in-Ok-hub_over.hub.store.archive.store) c.in-Ok-hub_over.hub.store.archive.running s =
-    λ s at. subst (λ (a : HashingStore _). KeepsHashed (state g.S.Store a.store) a.running s) (sym made.kept) (record {
+    → KeepsHashed (state g.S.Store c.in-Ok-hub_over.hub.store.archive.store) c.in-Ok-hub_over.hub.store.archive.ahead s =
+    λ s at. subst (λ (a : HashingStore _). KeepsHashed (state g.S.Store a.store) a.ahead s) (sym made.kept) (record {
       represents = subst (λ (h : Held _). StoreRepresents (state g.S.Store h) s) (sym begun.store) at;
-      hashed = begun.running s;
+      hashed = begun.ahead s;
     }) in
     record {
       opened = record {

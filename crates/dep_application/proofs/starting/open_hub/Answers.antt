@@ -56,11 +56,11 @@ returns-in-Ok-new g c =
     record {
       fresh = λ honest none. made.represents empty_state (record {
         represents = subst (λ (h : Held _). StoreRepresents (state g.S.Store h) empty_state) (sym begun.store) (did.fresh (subst (λ (h : Held _). HasCleanDisk (state g.S.Store h)) same honest) none);
-        hashed = begun.running empty_state;
+        hashed = begun.ahead empty_state;
       });
       again = λ honest found left first records run. made.again first records (first_world found) run (λ n. refl) (record {
         represents = subst (λ (h : Held _). StoreRepresents (state g.S.Store h) found) (sym begun.store) (did.found (subst (λ (h : Held _). HasCleanDisk (state g.S.Store h)) same honest) found left);
-        hashed = begun.running found;
+        hashed = begun.ahead found;
       });
       config = made.config;
       checked = made.checked;

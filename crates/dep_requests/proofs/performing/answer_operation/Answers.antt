@@ -15,12 +15,12 @@ returns-clause-does g c =
     let reported = c.in_ok-performed.ensures in
     let before = λ (clean : HasCleanDisk new). clean_before reported.map.keeps.stays clean in
     record {
-      map = λ clean within ours s are sound running fit.
-          let rules = rw c.config.ensures at (ruled.found (before clean) within ours s are sound running).1 in
+      map = λ clean within ours s are sound ahead fit.
+          let rules = rw c.config.ensures at (ruled.found (before clean) within ours s are sound ahead.hashes).1 in
           reported.map.done clean (ruled.keeps.stays.inside (before clean) within) (reads_ours ruled.keeps (before clean) within ours) s
-          (sees_still old mid s (ruled.keeps.same (before clean) ours).0.now_is are) sound fit rules;
-      changes = λ clean within ours s are sound running.
-          let rules = rw c.config.ensures at (ruled.found (before clean) within ours s are sound running).1 in (
+          (sees_still old mid s (ruled.keeps.same (before clean) ours).0.now_is are) sound fit rules ahead.texts;
+      changes = λ clean within ours s are sound ahead.
+          let rules = rw c.config.ensures at (ruled.found (before clean) within ours s are sound ahead.hashes).1 in (
             λ none. reads_alike c.args.service.now s c.args.operation.now _ rules.ruling (c.lets_change-has_changes.ensures.0 none),
             λ nothing. c.lets_change-has_changes.ensures.1 (only_reads c.args.service.now s c.args.operation.now _ rules.ruling nothing),
           );
@@ -42,13 +42,20 @@ pub returns-in_err-performed-clause-stays : goal.returns-in_err-performed-clause
 returns-in_err-performed-clause-stays g c =
     stays_err c.from_residual-in_err-performed.ensures.0 (stays_then c.in_ok-ruled.ensures.map.keeps.stays c.in_err-performed.ensures.map.keeps.stays)
 
-pub returns-clause-running : goal.returns-clause-running
-returns-clause-running g c clean within ours s are sound running =
-    (c.in_ok-ruled.ensures.map.found (clean_before c.in_ok-performed.ensures.map.keeps.stays clean) within ours s are sound running).0
+pub returns-clause-ahead : goal.returns-clause-ahead
+returns-clause-ahead g c clean within ours s are sound ahead = record {
+  hashes = (c.in_ok-ruled.ensures.map.found (clean_before c.in_ok-performed.ensures.map.keeps.stays clean) within ours s are sound ahead.hashes).0;
+  texts = c.in_ok-performed.ensures.texts s ahead.texts;
+}
 
-pub returns-in_err-ruled-clause-running : goal.returns-in_err-ruled-clause-running
-returns-in_err-ruled-clause-running g c clean within ours s are sound running = (c.rule.ensures.map.found clean within ours s are sound running).0
+pub returns-in_err-ruled-clause-ahead : goal.returns-in_err-ruled-clause-ahead
+returns-in_err-ruled-clause-ahead g c clean within ours s are sound ahead = record {
+  hashes = (c.rule.ensures.map.found clean within ours s are sound ahead.hashes).0;
+  texts = ahead.texts;
+}
 
-pub returns-in_err-performed-clause-running : goal.returns-in_err-performed-clause-running
-returns-in_err-performed-clause-running g c clean within ours s are sound running =
-    (c.in_ok-ruled.ensures.map.found (clean_before c.in_err-performed.ensures.map.keeps.stays clean) within ours s are sound running).0
+pub returns-in_err-performed-clause-ahead : goal.returns-in_err-performed-clause-ahead
+returns-in_err-performed-clause-ahead g c clean within ours s are sound ahead = record {
+  hashes = (c.in_ok-ruled.ensures.map.found (clean_before c.in_err-performed.ensures.map.keeps.stays clean) within ours s are sound ahead.hashes).0;
+  texts = c.in_err-performed.ensures.texts s ahead.texts;
+}

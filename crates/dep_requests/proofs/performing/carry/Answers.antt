@@ -6,7 +6,9 @@ use Rattle.dep_row_maps.specs.Clauses.{SeesState}
 use Rattle.dep_row_maps.proofs.Changing.{changes_err, changes_ok, changes_then}
 use Rattle.dep_decisions.specs.Effects.{effect}
 use Rattle.dep_decisions.proofs.Accepted.{effect_sound}
+use Rattle.dep_decisions.proofs.ObjectsStay.{effect_keeps_objects}
 use Rattle.dep_requests.specs.Reported.{IsAccepted}
+use Rattle.dep_requests.proofs.AheadStill.{texts_still}
 use Rattle.dep_requests.proofs.Carried.{request_made}
 use Rattle.dep_requests.proofs.KnownShown.{has_known}
 use Rattle.dep_objects.specs.Objects.{HasRow}
@@ -16,20 +18,20 @@ use Rattle.dep_requests.proofs.performing.carry.Goals as goal
 
 pub returns-in_err-carry_out-clause-map : goal.returns-in_err-carry_out-clause-map
 returns-in_err-carry_out-clause-map g c = record {
-  done = λ clean within ours s are config sound fit rules ruling. IfOk-from_err c.from_residual.result _ c.from_residual.ensures.0;
+  done = λ clean within ours s are config sound fit rules ruling read. IfOk-from_err c.from_residual.result _ c.from_residual.ensures.0;
   keeps = changes_err c.from_residual.ensures.0 c.in_err-carry_out.ensures.map.keeps.stays;
 }
 
 pub returns-in_err-shown-clause-map : goal.returns-in_err-shown-clause-map
 returns-in_err-shown-clause-map g c = record {
-  done = λ clean within ours s are config sound fit rules ruling. IfOk-from_err c.from_residual-in_err-shown.result _ c.from_residual-in_err-shown.ensures.0;
+  done = λ clean within ours s are config sound fit rules ruling read. IfOk-from_err c.from_residual-in_err-shown.result _ c.from_residual-in_err-shown.ensures.0;
   keeps = changes_ok c.in_ok-carry_out.ensures.map.keeps;
 }
 
 pub returns-clause-map : goal.returns-clause-map
 returns-clause-map g c = record {
-  done = λ clean within ours s are config sound fit rules ruling.
-      let op = c.args.operation.now in
+  done = λ clean within ours s are config sound fit rules ruling read.
+      let op = c.args.asked.operation.now in
       let mid = g.T.Statements.state c.carry_out.new.tx in
       let before = clean_before c.load_shown.ensures.does.map.keeps.stays clean in
       let accepted : IsAccepted s c.args.ruled.now.view op.content c.args.decision.now = record { config = config; op = op; sound = sound; seen = rules.view; ruling = ruling; sent = refl } in
@@ -41,7 +43,7 @@ returns-clause-map g c = record {
       shown_after (effect config s op) op mid (g.T.Statements.state c.load_shown.new.tx) c.after_taking-next.result c.of-read_set.result c.load_shown.result made c.of-read_set.ensures next
       (c.load_shown.ensures.does.still clean then)
       (c.load_shown.ensures.does.map.found clean (c.in_ok-carry_out.ensures.map.keeps.stays.inside before within) then (effect config s op) made (effect_sound config s op fit ruling.0 sound)
-      (subst (λ (after : State). IfSome c.row_after.result (HasRow after)) becomes known));
+      (subst (λ (after : State). IfSome c.row_after.result (HasRow after)) becomes known, texts_still s (effect config s op) c.args.texts.now (effect_keeps_objects config s op) read));
   keeps = changes_then c.in_ok-carry_out.ensures.map.keeps (changes_still c.load_shown.ensures.does.map.keeps.stays c.load_shown.ensures.does.still);
 }
 
@@ -51,8 +53,8 @@ returns-clause-unchanged g c show =
 
 pub returns-in-Some-clause-map : goal.returns-in-Some-clause-map
 returns-in-Some-clause-map g c = record {
-  done = λ clean within ours s are config sound fit rules ruling.
-      let op = c.args.operation.now in
+  done = λ clean within ours s are config sound fit rules ruling read.
+      let op = c.args.asked.operation.now in
       let accepted : IsAccepted s c.args.ruled.now.view op.content c.args.decision.now = record { config = config; op = op; sound = sound; seen = rules.view; ruling = ruling; sent = refl } in
       let made = subst (SeesState (g.T.Statements.state c.carry_out.new.tx)) (request_made config s op c.args.decision.now ruling.1) (c.in_ok-carry_out.ensures.map.done clean within ours s are accepted) in
       (made, known_shown_by config s op c.args.decision.now c.in-Some.shown ruling.1 (sym c.in-Some.is ∙ c.in_ok-shown.ensures s accepted));

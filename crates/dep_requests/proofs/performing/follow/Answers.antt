@@ -16,7 +16,7 @@ use Rattle.dep_requests.proofs.performing.follow.Goals as goal
 
 pub returns-in-Some-clause-map : goal.returns-in-Some-clause-map
 returns-in-Some-clause-map g c = record {
-  done = λ clean within ours s are sound fit rules.
+  done = λ clean within ours s are sound fit rules read.
       let op = c.args.operation.now in
       let config = c.args.service.now in
       let way = delivered s op c.args.ruled.now.view.clock c.delivery_at-delivery.result sound rules.clock
@@ -35,7 +35,7 @@ returns-in-Some-clause-unchanged g c only is_open clean ours = if_ok c.accept-pe
 
 pub returns-in-Refuse-clause-map : goal.returns-in-Refuse-clause-map
 returns-in-Refuse-clause-map g c = record {
-  done = λ clean within ours s are sound fit rules.
+  done = λ clean within ours s are sound fit rules read.
       let op = c.args.operation.now in
       let config = c.args.service.now in
       let ruled = c.take_row.new.ruled in
@@ -49,7 +49,7 @@ returns-in-Refuse-clause-map g c = record {
 
 pub returns-in_ok-shown-in-Do-clause-map : goal.returns-in_ok-shown-in-Do-clause-map
 returns-in_ok-shown-in-Do-clause-map g c = record {
-  done = λ clean within ours s are sound fit rules.
+  done = λ clean within ours s are sound fit rules read.
       let op = c.args.operation.now in
       let config = c.args.service.now in
       let ruled = c.take_row.new.ruled in
@@ -58,14 +58,14 @@ returns-in_ok-shown-in-Do-clause-map g c = record {
       c.delivery_at-delivery.ensures.clock c.delivery_at-delivery.ensures.head_only c.delivery_at-delivery.ensures.closes in
       let ruling = subst (λ (r : Ruling). IsRuling config s op r) c.in-Do.is is.ruling in
       let seen = subst (λ (r : Ruling). SeesFor config s op ruled r) c.in-Do.is is.seen in
-      let carried = c.in_ok-shown-in-Do.ensures.map.done clean within ours s are config sound fit seen ruling in
+      let carried = c.in_ok-shown-in-Do.ensures.map.done clean within ours s are config sound fit seen ruling read in
       accepted_then config s op (SeesState (g.T.Statements.state c.carry.new.tx)) c.delivery_at-delivery.result _ c.accept-performed-in-Do.result fit sound ruling.0 way carried c.accept-performed-in-Do.ensures;
   keeps = changes_ok c.in_ok-shown-in-Do.ensures.map.keeps;
 }
 
 pub returns-in_err-shown-in-Do-clause-map : goal.returns-in_err-shown-in-Do-clause-map
 returns-in_err-shown-in-Do-clause-map g c = record {
-  done = λ clean within ours s are sound fit rules. IfOk-from_err c.from_residual.result _ c.from_residual.ensures.0;
+  done = λ clean within ours s are sound fit rules read. IfOk-from_err c.from_residual.result _ c.from_residual.ensures.0;
   keeps = changes_err c.from_residual.ensures.0 c.in_err-shown-in-Do.ensures.map.keeps.stays;
 }
 

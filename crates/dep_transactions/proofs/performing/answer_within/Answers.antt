@@ -4,7 +4,7 @@ use Rattle.std.proofs.lemmas.Result.{IfOk-weaker}
 use Rattle.sqlite.specs.Held.{state}
 use Rattle.sqlite.specs.declared.transaction.Transaction.{Transaction}
 use Rattle.dep_requests.specs.Caching.{is_plain_read}
-use Rattle.dep_requests.specs.Performing.{IsDone, KeepsRunningHashes}
+use Rattle.dep_requests.specs.Performing.{IsDone, KeepsAhead}
 use Rattle.dep_requests.specs.declared.performing.Done.{Done}
 use Rattle.dep_transactions.specs.OpenTables.{StaysOn}
 use Rattle.dep_transactions.proofs.Asking.{lent_name, stays_on}
@@ -23,8 +23,8 @@ returns-then-is_plain_read g c =
     let same : c.answer_operation.new.tx.tx.now ≡ c.tx-1.given.0 = sym (c.tx-1.given.1 (lent_name g.S.Store reported.stays)) in
     let does = subst (λ (tx : Transaction g.row.S.Denot). IfOk result (IsDone old (state g.S.Store tx.conn.now) config op none)) same reported.does in
     record {
-      does = IfOk-weaker result _ _ (λ (done : Done) did. done_with _ _ config op none c.args.running.now done (λ s are. c.new-none.ensures s) did) does;
-      running = λ clean within ours s are sound running. running;
+      does = IfOk-weaker result _ _ (λ (done : Done) did. done_with _ _ config op none c.args.ahead.now done (λ s are. c.new-none.ensures s) did) does;
+      ahead = λ clean within ours s are sound ahead. ahead;
       plain = λ reads. IfOk-weaker result _ _ (λ (done : Done) did. (none, c.new-none.ensures, did)) does;
       stays = subst (λ (tx : Transaction g.row.S.Denot). StaysOn g.S.Store c.args.tx.now.conn tx.conn result) same (stays_on g.S.Store reported.stays);
     }
@@ -34,8 +34,8 @@ returns g c =
     let reported = c.answer_operation-2.ensures in
     let same : c.answer_operation-2.new.tx.tx.now ≡ c.tx-2-1.given.0 = sym (c.tx-2-1.given.1 (lent_name g.S.Store reported.stays)) in
     record {
-      does = subst (λ (tx : Transaction g.row.S.Denot). IfOk c.answer_operation-2.result (IsDone (state g.S.Store c.args.tx.now.conn.now) (state g.S.Store tx.conn.now) c.args.service.now c.args.operation.now c.args.running.now)) same reported.does;
-      running = subst (λ (tx : Transaction g.row.S.Denot). KeepsRunningHashes (state g.S.Store c.args.tx.now.conn.now) (state g.S.Store tx.conn.now) c.args.running.now c.answer_operation-2.new.running) same reported.running;
+      does = subst (λ (tx : Transaction g.row.S.Denot). IfOk c.answer_operation-2.result (IsDone (state g.S.Store c.args.tx.now.conn.now) (state g.S.Store tx.conn.now) c.args.service.now c.args.operation.now c.args.ahead.now)) same reported.does;
+      ahead = subst (λ (tx : Transaction g.row.S.Denot). KeepsAhead (state g.S.Store c.args.tx.now.conn.now) (state g.S.Store tx.conn.now) c.args.ahead.now c.answer_operation-2.new.ahead) same reported.ahead;
       plain = λ reads. absurd (both_ways (is_plain_read c.args.operation.now) (sym c.is_plain_read.ensures ∙ c.if-is_plain_read.false) reads);
       stays = subst (λ (tx : Transaction g.row.S.Denot). StaysOn g.S.Store c.args.tx.now.conn tx.conn c.answer_operation-2.result) same (stays_on g.S.Store reported.stays);
     }

@@ -2,9 +2,9 @@ use Rattle.std.proofs.Common.{false, not, ◌≡◌, ◌∙◌, refl, sym, ap, s
 use Rattle.std.proofs.lemmas.Result.{IfOk-from_err}
 use Rattle.sqlite.proofs.StateLemmas.{clean_if_open}
 use Rattle.dep_transactions.proofs.Transacting.{gave_up, none_then, on_connection, still_on, works_on}
-use Rattle.dep_staging.specs.declared.running.RunningHashes.{RunningHashes}
+use Rattle.dep_views.specs.declared.ahead.WorkAhead.{WorkAhead}
 use Rattle.dep_requests.specs.Performing.{IsDone}
-use Rattle.dep_transactions.proofs.Performed.{IsPerformed, by_commit, by_rollback, keeps_running, transacts_alone, worked_on}
+use Rattle.dep_transactions.proofs.Performed.{IsPerformed, by_commit, by_rollback, keeps_ahead, transacts_alone, worked_on}
 use Rattle.sqlite.specs.State.{Survives}
 use Rattle.sqlite.specs.Held.{Held, state}
 use Rattle.dep_transactions.proofs.performing.perform_request.Goals as goal
@@ -23,8 +23,8 @@ returns-in_err-performed g c =
     record {
       transacts = gave_up g.S.Store old inside new _ result is_err work c.drop-tx.ensures.undone c.drop-tx.ensures.survives _ same;
       plain = λ reads. gave_up g.S.Store old inside new _ result is_err work c.drop-tx.ensures.undone c.drop-tx.ensures.survives _ same;
-      changes = λ clean s represents running. IfOk-from_err result _ is_err;
-      running = keeps_running g.S.Store old inside new c.args.running.now c.answer_within.new.running _ c.transaction-tx.ensures.begun c.in_err-performed.ensures.running c.drop-tx.ensures.survives work.shut _ same;
+      changes = λ clean s represents ahead. IfOk-from_err result _ is_err;
+      ahead = keeps_ahead g.S.Store old inside new c.args.ahead.now c.answer_within.new.ahead _ c.transaction-tx.ensures.begun c.in_err-performed.ensures.ahead c.drop-tx.ensures.survives work.shut _ same;
       back = IfOk-from_err result _ is_err;
     }
 
@@ -39,17 +39,17 @@ returns-then-performed g c =
     (clean_if_open (g.S.Store.view new.store) (g.met.S.Store.shut_if_dirty new.store)) in
     let last = c.connection-then-performed-1.given.0 in
     let same : new ≡ last = sym (c.connection-then-performed-1.given.1 (on_connection g.S.Store reported.stays c.transaction-tx.ensures.same_reference)) in
-    let ended = λ (runs : RunningHashes) (did : IsDone (state g.S.Store c.transaction-tx.result.conn.now) (state g.S.Store inside) c.args.service.now c.args.operation.now runs c.in_ok-performed.performed).
+    let ended = λ (runs : WorkAhead) (did : IsDone (state g.S.Store c.transaction-tx.result.conn.now) (state g.S.Store inside) c.args.service.now c.args.operation.now runs c.in_ok-performed.performed).
     subst (IsPerformed (state g.S.Store old) (state g.S.Store last) c.args.service.now c.args.operation.now runs) (sym c.and.ensures)
     (by_commit g.S.Store old inside c.args.service.now c.args.operation.now runs c.in_ok-performed.performed
     (worked_on g.S.Store old inside c.args.service.now c.args.operation.now runs c.in_ok-performed.performed c.transaction-tx.ensures.begun did) new c.commit.result work
     (still_on g.S.Store old reported.stays c.transaction-tx.ensures.begun) c.commit.ensures.ok c.commit.ensures.err c.commit.ensures.survives c.if-performed.true last same) in
-    let it = ended c.args.running.now reported.does in
+    let it = ended c.args.ahead.now reported.does in
     record {
       transacts = it.transacts;
       plain = λ reads. let alone = reported.plain reads in transacts_alone _ _ _ _ alone.0 _ alone.1 (ended alone.0 alone.2).transacts;
       changes = it.changes;
-      running = keeps_running g.S.Store old inside new c.args.running.now c.answer_within.new.running _ c.transaction-tx.ensures.begun reported.running c.commit.ensures.survives work.shut last same;
+      ahead = keeps_ahead g.S.Store old inside new c.args.ahead.now c.answer_within.new.ahead _ c.transaction-tx.ensures.begun reported.ahead c.commit.ensures.survives work.shut last same;
       back = it.back;
     }
 
@@ -65,19 +65,19 @@ returns g c =
     (clean_if_open (g.S.Store.view mid.store) (g.met.S.Store.shut_if_dirty mid.store)) in
     let last = c.connection-2-1.given.0 in
     let same : mid ≡ last = sym (c.connection-2-1.given.1 (on_connection g.S.Store reported.stays c.transaction-tx.ensures.same_reference)) in
-    let ended = λ (runs : RunningHashes) (did : IsDone (state g.S.Store c.transaction-tx.result.conn.now) (state g.S.Store inside) c.args.service.now c.args.operation.now runs c.in_ok-performed.performed).
+    let ended = λ (runs : WorkAhead) (did : IsDone (state g.S.Store c.transaction-tx.result.conn.now) (state g.S.Store inside) c.args.service.now c.args.operation.now runs c.in_ok-performed.performed).
     subst (IsPerformed (state g.S.Store old) (state g.S.Store new) c.args.service.now c.args.operation.now runs) (sym c.and-2.ensures)
     (by_rollback g.S.Store old inside c.args.service.now c.args.operation.now runs c.in_ok-performed.performed
     (worked_on g.S.Store old inside c.args.service.now c.args.operation.now runs c.in_ok-performed.performed c.transaction-tx.ensures.begun did) mid last new same c.check_open.result work
     c.give_back.ensures.undone c.give_back.ensures.survives (c.is_autocommit-between.ensures.settled (c.is_autocommit-between.ensures.value ∙ ap not c.requires.settled)) c.check_open.ensures c.if-performed.false) in
-    let it = ended c.args.running.now reported.does in
+    let it = ended c.args.ahead.now reported.does in
     let later = subst (λ (h : Held g.row.S.Denot). Survives (state g.S.Store h) (state g.S.Store new) (λ _. ⊥)) (sym same) c.check_open.ensures.restored.survives in
     record {
       transacts = it.transacts;
       plain = λ reads. let alone = reported.plain reads in transacts_alone _ _ _ _ alone.0 _ alone.1 (ended alone.0 alone.2).transacts;
       changes = it.changes;
-      running =
-          keeps_running g.S.Store old inside new c.args.running.now c.answer_within.new.running _ c.transaction-tx.ensures.begun reported.running
+      ahead =
+          keeps_ahead g.S.Store old inside new c.args.ahead.now c.answer_within.new.ahead _ c.transaction-tx.ensures.begun reported.ahead
           (none_then (state g.S.Store inside) (state g.S.Store mid) (state g.S.Store new) c.give_back.ensures.survives later) (clean_if_open (g.S.Store.view new.store) (g.met.S.Store.shut_if_dirty new.store)) new refl;
       back = it.back;
     }

@@ -6,7 +6,7 @@ use Rattle.dep_store.proofs.archive.HashingStoreArchive.is_open.Goals as goal
 
 pub returns-clause-rests : goal.returns-clause-rests
 returns-clause-rests g c =
-    let runs = c.args.self.now.running in
+    let runs = c.args.self.now.ahead in
     keeps_hashed (state g.S.Store c.args.self.now.store) (state g.S.Store c.is_open.new.self) runs runs (λ is_open s represents are. are) c.is_open.ensures.rests
 
 pub returns-clause-cause : goal.returns-clause-cause

@@ -8,9 +8,9 @@ returns-clause-streams g c =
     (sent.0, sent.1, λ clean s keeps. sent.2 clean s keeps.represents)
 
 pub returns-clause-does : goal.returns-clause-does
-returns-clause-does g c = state_hashed (state g.S.Store c.args.self.now.store) (state g.S.Store c.stream.new.self) c.args.self.now.running c.stream.result c.stream.ensures.does
+returns-clause-does g c = state_hashed (state g.S.Store c.args.self.now.store) (state g.S.Store c.stream.new.self) c.args.self.now.ahead c.stream.result c.stream.ensures.does
 
 pub returns-clause-shut : goal.returns-clause-shut
 returns-clause-shut g c =
-    let runs = c.args.self.now.running in
+    let runs = c.args.self.now.ahead in
     shut_hashed (state g.S.Store c.args.self.now.store) (state g.S.Store c.stream.new.self) runs runs c.stream.result c.stream.ensures.stays.shut

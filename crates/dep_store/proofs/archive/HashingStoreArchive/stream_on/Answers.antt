@@ -8,9 +8,9 @@ returns-clause-streams g c =
     (sent.0, sent.1, λ clean s keeps. sent.2 clean s keeps.represents)
 
 pub returns-clause-does : goal.returns-clause-does
-returns-clause-does g c = state_hashed (state g.S.Store c.args.self.now.store) (state g.S.Store c.stream_on.new.self) c.args.self.now.running c.stream_on.result c.stream_on.ensures.does
+returns-clause-does g c = state_hashed (state g.S.Store c.args.self.now.store) (state g.S.Store c.stream_on.new.self) c.args.self.now.ahead c.stream_on.result c.stream_on.ensures.does
 
 pub returns-clause-shut : goal.returns-clause-shut
 returns-clause-shut g c =
-    let runs = c.args.self.now.running in
+    let runs = c.args.self.now.ahead in
     shut_hashed (state g.S.Store c.args.self.now.store) (state g.S.Store c.stream_on.new.self) runs runs c.stream_on.result c.stream_on.ensures.stays.shut

@@ -13,7 +13,7 @@ use Rattle.dep_store.proofs.archive.HashingStoreArchive.work_ahead.Goals as goal
 -- the log was copied
 pub returns-then-count-clause-rests : goal.returns-then-count-clause-rests
 returns-then-count-clause-rests g c =
-    let runs = c.args.self.now.running in
+    let runs = c.args.self.now.ahead in
     let old = state g.S.Store c.args.self.now.store in
     let store = c.copy_log-copied.new.self in
     let new = state g.S.Store store in
@@ -25,7 +25,7 @@ returns-then-count-clause-rests g c =
 
 pub returns-then-count-clause-commits : goal.returns-then-count-clause-commits
 returns-then-count-clause-commits g c =
-    let runs = c.args.self.now.running in
+    let runs = c.args.self.now.ahead in
     let log = c.args.self.now.log_copy in
     let old = shown_with_hashes (state g.S.Store c.args.self.now.store) runs in
     let new = shown_with_hashes (state g.S.Store c.copy_log-copied.new.self) runs in
@@ -37,23 +37,23 @@ returns-then-count-clause-commits g c =
 pub returns-then-matches-clause-rests : goal.returns-then-matches-clause-rests
 returns-then-matches-clause-rests g c =
     let store = c.args.self.now.store in
-    keeps_itself (shown_with_hashes (state g.S.Store store) c.args.self.now.running)
+    keeps_itself (shown_with_hashes (state g.S.Store store) c.args.self.now.ahead)
     (λ s keeps. leaves_as_was _ s (λ trees h. g.met.S.Store.settled store.store trees keeps.represents.represents.is_open h) keeps.represents)
 
 pub returns-then-matches-clause-commits : goal.returns-then-matches-clause-commits
 returns-then-matches-clause-commits g c =
-    let at = shown_with_hashes (state g.S.Store c.args.self.now.store) c.args.self.now.running in
+    let at = shown_with_hashes (state g.S.Store c.args.self.now.store) c.args.self.now.ahead in
     ahead_commits c.args.self.now.log_copy _ at at c.count.ensures.counted (keeps_all at)
 
 pub returns-then-not-self-clause-rests : goal.returns-then-not-self-clause-rests
 returns-then-not-self-clause-rests g c =
     let store = c.args.self.now.store in
-    keeps_itself (shown_with_hashes (state g.S.Store store) c.args.self.now.running)
+    keeps_itself (shown_with_hashes (state g.S.Store store) c.args.self.now.ahead)
     (λ s keeps. leaves_as_was _ s (λ trees h. g.met.S.Store.settled store.store trees keeps.represents.represents.is_open h) keeps.represents)
 
 pub returns-then-not-self-clause-commits : goal.returns-then-not-self-clause-commits
 returns-then-not-self-clause-commits g c =
-    let at = shown_with_hashes (state g.S.Store c.args.self.now.store) c.args.self.now.running in
+    let at = shown_with_hashes (state g.S.Store c.args.self.now.store) c.args.self.now.ahead in
     ahead_commits c.args.self.now.log_copy _ at at c.count.ensures.counted (keeps_all at)
 
 -- ---- a part was hashed
@@ -61,21 +61,21 @@ returns-then-not-self-clause-commits g c =
 pub returns-in-Some-clause-rests : goal.returns-in-Some-clause-rests
 returns-in-Some-clause-rests g c =
     let store = c.args.self.now.store in
-    let did = c.hash_for-hashed.ensures in
+    let did = c.prepare-hashed.ensures in
     let old = state g.S.Store store in
-    let new = state g.S.Store c.hash_for-hashed.new.self in
-    keeps_each (shown_with_hashes old c.args.self.now.running) (shown_with_hashes new c.hash_for-hashed.new.running)
+    let new = state g.S.Store c.prepare-hashed.new.self in
+    keeps_each (shown_with_hashes old c.args.self.now.ahead) (shown_with_hashes new c.prepare-hashed.new.ahead)
     (λ s keeps. leaves_as_was _ s (λ trees h. g.met.S.Store.settled store.store trees keeps.represents.represents.is_open h) keeps.represents)
-    (keeps_hashed old new c.args.self.now.running c.hash_for-hashed.new.running did.running did.rests)
+    (keeps_hashed old new c.args.self.now.ahead c.prepare-hashed.new.ahead did.ahead did.rests)
 
 pub returns-in-Some-clause-commits : goal.returns-in-Some-clause-commits
 returns-in-Some-clause-commits g c =
-    let did = c.hash_for-hashed.ensures in
-    let runs = c.args.self.now.running in
-    let later = c.hash_for-hashed.new.running in
+    let did = c.prepare-hashed.ensures in
+    let runs = c.args.self.now.ahead in
+    let later = c.prepare-hashed.new.ahead in
     let old = state g.S.Store c.args.self.now.store in
-    let new = state g.S.Store c.hash_for-hashed.new.self in
-    ahead_commits c.args.self.now.log_copy _ (shown_with_hashes old runs) (shown_with_hashes new later) c.count.ensures.counted (keeps_hashed old new runs later did.running did.rests)
+    let new = state g.S.Store c.prepare-hashed.new.self in
+    ahead_commits c.args.self.now.log_copy _ (shown_with_hashes old runs) (shown_with_hashes new later) c.count.ensures.counted (keeps_hashed old new runs later did.ahead did.rests)
 
 pub returns-clause-rests : goal.returns-clause-rests
 returns-clause-rests g c =
@@ -83,15 +83,15 @@ returns-clause-rests g c =
     let did = c.hash_ahead.ensures in
     let old = state g.S.Store store in
     let new = state g.S.Store c.hash_ahead.new.self in
-    keeps_each (shown_with_hashes old c.args.self.now.running) (shown_with_hashes new c.hash_ahead.new.running)
+    keeps_each (shown_with_hashes old c.args.self.now.ahead) (shown_with_hashes new c.hash_ahead.new.ahead)
     (λ s keeps. leaves_as_was _ s (λ trees h. g.met.S.Store.settled store.store trees keeps.represents.represents.is_open h) keeps.represents)
-    (keeps_hashed old new c.args.self.now.running c.hash_ahead.new.running did.running did.rests)
+    (keeps_hashed old new c.args.self.now.ahead c.hash_ahead.new.ahead did.ahead did.rests)
 
 pub returns-clause-commits : goal.returns-clause-commits
 returns-clause-commits g c =
     let did = c.hash_ahead.ensures in
-    let runs = c.args.self.now.running in
-    let later = c.hash_ahead.new.running in
+    let runs = c.args.self.now.ahead in
+    let later = c.hash_ahead.new.ahead in
     let old = state g.S.Store c.args.self.now.store in
     let new = state g.S.Store c.hash_ahead.new.self in
-    ahead_commits c.args.self.now.log_copy _ (shown_with_hashes old runs) (shown_with_hashes new later) c.count.ensures.counted (keeps_hashed old new runs later did.running did.rests)
+    ahead_commits c.args.self.now.log_copy _ (shown_with_hashes old runs) (shown_with_hashes new later) c.count.ensures.counted (keeps_hashed old new runs later did.ahead did.rests)

@@ -55,8 +55,8 @@ returns-in-Some g c =
     let shut : StoreFailsIfShut d d result = was_open_then d d _ was_open in
     record {
       does = tries_over _ _ result (Made config op) _ (ready config op) (next config op) (λ s its t p after made means. made its.0 s means) (rw c.self.view_is at still);
-      unchanged = λ clean s given running nothing. if_ok result (rw c.self.view_is at back);
-      running = λ is_open s represents are. are;
+      unchanged = λ clean s given ahead nothing. if_ok result (rw c.self.view_is at back);
+      ahead = λ is_open s represents are. are;
       shut = rw c.self.view_is at shut;
     }
 
@@ -75,8 +75,8 @@ returns-in_err-check_open g c =
     let shut : StoreFailsIfShut old new result = fails_still old new result is_err restored.survives in
     record {
       does = tries_over _ _ result (Made config op) _ (ready config op) (next config op) (λ s its t p after made means. made its.0 s means) (rw c.self.view_is at back);
-      unchanged = λ clean s given running nothing. IfOk-from_err result _ is_err;
-      running = λ is_open s represents are. are;
+      unchanged = λ clean s given ahead nothing. IfOk-from_err result _ is_err;
+      ahead = λ is_open s represents are. are;
       shut = rw c.self.view_is at shut;
     }
 
@@ -90,8 +90,8 @@ returns-in_err-done g c =
     let result = c.from_residual-in_err-done.result in
     let is_err = c.from_residual-in_err-done.ensures.0 in
     let asked = c.in_err-done.ensures in
-    let done = performs (state g.S.Store first) (state g.S.Store mid) new config op c.args.running.now c.perform_request.new.running _ (λ is_open trees h. g.met.S.Store.settled first.store trees is_open h)
-    (clean_if_open (g.S.Store.view mid.store) (g.met.S.Store.shut_if_dirty mid.store)) c.in_ok-check_open.ensures asked.running
+    let done = performs (state g.S.Store first) (state g.S.Store mid) new config op c.args.ahead.now c.perform_request.new.ahead _ (λ is_open trees h. g.met.S.Store.settled first.store trees is_open h)
+    (clean_if_open (g.S.Store.view mid.store) (g.met.S.Store.shut_if_dirty mid.store)) c.in_ok-check_open.ensures asked.ahead
     (shows_file _ _ config op _ asked.plain) asked.transacts asked.changes asked.back in
     let did = tries_over (state g.S.Store c.args.self.now) new _ _ _ (done_ready config op) (next config op) (λ s its t p after made means. made its.0 s means its.1) (rw c.self.view_is at done.transacts) in
     let shut : StoreFailsIfShut (state g.S.Store first) new result = record {
@@ -106,8 +106,8 @@ returns-in_err-done g c =
         was_open = did.was_open;
         stop = did.stop;
       };
-      unchanged = λ clean s given running nothing. IfOk-from_err result _ is_err;
-      running = rw c.self.view_is at done.hashed;
+      unchanged = λ clean s given ahead nothing. IfOk-from_err result _ is_err;
+      ahead = rw c.self.view_is at done.hashed;
       shut = rw c.self.view_is at shut;
     }
 
@@ -119,17 +119,17 @@ returns g c =
     let config = c.args.service.now in
     let op = c.args.operation.now in
     let asked = c.in_ok-done.ensures in
-    let done = performs (state g.S.Store first) (state g.S.Store mid) new config op c.args.running.now c.perform_request.new.running _ (λ is_open trees h. g.met.S.Store.settled first.store trees is_open h)
-    (clean_if_open (g.S.Store.view mid.store) (g.met.S.Store.shut_if_dirty mid.store)) c.in_ok-check_open.ensures asked.running
+    let done = performs (state g.S.Store first) (state g.S.Store mid) new config op c.args.ahead.now c.perform_request.new.ahead _ (λ is_open trees h. g.met.S.Store.settled first.store trees is_open h)
+    (clean_if_open (g.S.Store.view mid.store) (g.met.S.Store.shut_if_dirty mid.store)) c.in_ok-check_open.ensures asked.ahead
     (shows_file _ _ config op _ asked.plain) asked.transacts asked.changes asked.back in
     let did = tries_over (state g.S.Store c.args.self.now) new _ _ _ (done_ready config op) (next config op) (λ s its t p after made means. made its.0 s means its.1) (rw c.self.view_is at done.transacts) in
     let shut = rw c.self.view_is at done.shut in
     record {
       does = record { ok = did.ok; err = λ is_open s at. tt; honest = did.honest; was_open = did.was_open; stop = did.stop };
-      unchanged = λ clean s given running nothing.
+      unchanged = λ clean s given ahead nothing.
           let represents = rw (← c.self.view_is) at given in
-          subst (λ h. IsGivenBack (state g.S.Store h) new) c.self.view_is (done.back ((done.changes clean s represents running).1 nothing));
-      running = rw c.self.view_is at done.hashed;
+          subst (λ h. IsGivenBack (state g.S.Store h) new) c.self.view_is (done.back ((done.changes clean s represents ahead).1 nothing));
+      ahead = rw c.self.view_is at done.hashed;
       shut = record { opened = shut.opened; left = shut.left };
     }
 
@@ -139,8 +139,8 @@ returns-then-not-is_autocommit g c =
     let busy : IsTrue d.in_transaction = rw c.self.view_is at (is_busy c.self.inside.connection.in_transaction c.if-not-is_autocommit.ensures.value) in
     record {
       does = busy_tries d busy (Err Store) refl;
-      unchanged = λ clean s given running nothing. tt;
-      running = λ is_open s represents are. are;
+      unchanged = λ clean s given ahead nothing. tt;
+      ahead = λ is_open s represents are. are;
       shut = busy_fails d busy (Err Store) refl;
     }
 
@@ -156,8 +156,8 @@ invariant_of-self-2 g c =
     let mid = c.check_open.new.connection in
     let asked = c.in_ok-done.ensures in
     let op = c.args.operation.now in
-    let done = performs (state g.S.Store first) (state g.S.Store mid) (state g.S.Store c.perform_request.new.connection) c.args.service.now op c.args.running.now c.perform_request.new.running _
-    (λ is_open trees h. g.met.S.Store.settled first.store trees is_open h) (clean_if_open (g.S.Store.view mid.store) (g.met.S.Store.shut_if_dirty mid.store)) c.in_ok-check_open.ensures asked.running
+    let done = performs (state g.S.Store first) (state g.S.Store mid) (state g.S.Store c.perform_request.new.connection) c.args.service.now op c.args.ahead.now c.perform_request.new.ahead _
+    (λ is_open trees h. g.met.S.Store.settled first.store trees is_open h) (clean_if_open (g.S.Store.view mid.store) (g.met.S.Store.shut_if_dirty mid.store)) c.in_ok-check_open.ensures asked.ahead
     (shows_file _ _ c.args.service.now op _ asked.plain) asked.transacts asked.changes asked.back in
     let known = λ (m : Cache) (is : c.still_known-self-inside.result ≡ Some m). known_still c.in_ok-done.done.has_changes c.self.inside.known.cache m (sym c.still_known-self-inside.ensures ∙ is) in (
       λ m is s represents.
