@@ -160,11 +160,18 @@ abbrev pub by_name_and_place : Row → Row → Ordering
 by_name_and_place a b =
     ordering_then (value_cmp (column a 1) (column b 1)) (value_cmp (column a 2) (column b 2))
 
+-- an object and a name
+abbrev pub name_values : (object : ℕ) → (name : List ℕ) → Row
+name_values object name = Int (pos object) ∷ Text name ∷ []
+
+-- a text of this name of the object
+abbrev pub is_text_of : (object : ℕ) → (name : List ℕ) → Row → Bool
+is_text_of object name stored =
+    has_number 1 object stored && is_eq (value_cmp (column stored 2) (Text name))
+
 -- the stored row has this one's object, name and place
 abbrev pub has_metadata_key : MetadataRow → Row → Bool
-has_metadata_key r stored =
-    has_number 1 r.object stored && is_eq (value_cmp (column stored 2) (Text r.name))
-    && has_number 3 r.place stored
+has_metadata_key r stored = is_text_of r.object r.name stored && has_number 3 r.place stored
 
 -- the object and the place are ones of SQL's numbers
 pub record IsStorableMetadata (r : MetadataRow) : Type 0 where

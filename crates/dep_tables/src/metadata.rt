@@ -1,17 +1,17 @@
 //! The rows of the objects' metadata.
 
-ghost use Rattle.std.specs.Prelude.{◌≡◌, ◌↔◌, IsTrue};
+ghost use Rattle.std.specs.Prelude.{◌≡◌, ◌<◌, ◌^◌, ◌↔◌, IsTrue};
 ghost use Rattle.sqlite.specs.Values.{bound};
-ghost use Rattle.dep_tables.specs.Rows.{IsStorableMetadata, metadata_values};
+ghost use Rattle.dep_tables.specs.Rows.{IsStorableMetadata, metadata_values, name_values};
 ghost use Rattle.dep_tables.specs.Edits.{LacksMetadataRow};
 ghost use Rattle.dep_tables.specs.Clauses.{Shows, Writes, Queries};
-ghost use Rattle.dep_tables.specs.Statements.{insertion_of_metadata, deletion_of_metadata, query_of_metadata};
+ghost use Rattle.dep_tables.specs.Statements.{insertion_of_metadata, deletion_of_metadata, query_of_metadata, query_of_last_text};
 
 use crate::calls::Statements;
 use crate::columns::ColumnKind::{self, Number};
 use crate::keyed::{ask_all_by_key, run_by_key};
 use crate::numbers::{LIMIT, number, number_at};
-use crate::reading::FromRow;
+use crate::reading::{FromRow, ask_one};
 use crate::texts::{text_at, text_value};
 use dep_types::{StoreFault, Text};
 use sqlite::Row;
@@ -111,5 +111,31 @@ pub fn metadata_of<T: Statements>(
         alloc,
         "SELECT object, name, place, value FROM metadata WHERE object = ?1 ORDER BY name, place",
         object,
+    )
+}
+
+fn name_params(object: u64, name: &Text) -> [ValueRef<'_>; 2]
+    requires { object < 2 ^ 63 }
+    ensures { bound result ≡ name_values object name.now }
+{
+    [ValueRef::Int(number(object)), text_value(name)]
+}
+
+/// Returns the place of the last text of a name of an object, if it has one. A number of 2^63 or more is a
+/// fault of the store.
+pub fn last_text<T: Statements>(
+    tx: &mut T,
+    object: u64,
+    name: &Text,
+) -> Result<Option<u64>, StoreFault>
+    ensures does { Queries T.lenders T.state tx.old tx.new result (query_of_last_text object name.now) }
+{
+    if object >= LIMIT {
+        return Err(StoreFault::Store);
+    }
+    ask_one(
+        tx,
+        "SELECT place FROM metadata WHERE object = ?1 AND name = ?2 ORDER BY place DESC LIMIT 1",
+        &name_params(object, name),
     )
 }
