@@ -1,16 +1,15 @@
 -- Texts of an object that were read ahead.
-use Rattle.std.proofs.Common.{◌≡◌, ◌∙◌, true, ℕ, Option, Some, None, List, refl, sym, ap, subst, map as each}
+use Rattle.std.proofs.Common.{◌≡◌, ◌∙◌, true, Option, Some, None, refl, sym, ap}
 use Rattle.std.specs.Prelude.{option_map}
 use Rattle.std.specs.Option.{option_map_or}
 use Rattle.std.specs.FinMap as finmap
-use Rattle.dep_types.specs.State.{State, Object, Texts}
+use Rattle.dep_types.specs.State.{State, Object}
 use Rattle.dep_types.specs.Sound.{IsSound}
 use Rattle.dep_types.specs.Rows.{object_row}
 use Rattle.dep_types.specs.declared.rows.ObjectRow.{ObjectRow}
 use Rattle.dep_row_maps.specs.Stored.{grouped, listed}
-use Rattle.dep_row_maps.specs.TablesAre.{metadata_at}
 use Rattle.dep_objects.specs.Objects.{HasRow, IsDescribed}
-use Rattle.dep_objects.specs.Ahead.{IsRead, AreFirst}
+use Rattle.dep_objects.specs.Ahead.{IsRead}
 use Rattle.dep_objects.specs.declared.ahead.ReadTexts.{ReadTexts}
 use Rattle.dep_objects.proofs.Puts.{described}
 

@@ -1,5 +1,5 @@
 -- The texts of an object that are read before a request needs them.
-use Rattle.std.specs.Prelude.{◌≡◌, ◌<◌, ℕ, Some, true, IfSome}
+use Rattle.std.specs.Prelude.{◌≡◌, ◌<◌, Some, true, IfSome}
 use Rattle.std.specs.FinMap as map
 use Rattle.dep_types.specs.State.{State, Object, Texts}
 use Rattle.dep_row_maps.specs.Stored.{grouped, listed}
