@@ -4,8 +4,9 @@ use Rattle.std.specs.List.{list_any}
 use Rattle.std.specs.Option.{option_to_list}
 use Rattle.sqlite.specs.declared.types.Value.{Value}
 use Rattle.sqlite.specs.declared.types.Value.TheVariants.{Int}
+use Rattle.sqlite.specs.Order.{Row}
 use Rattle.sqlite_trees.specs.Tree.{put_row, without_rowid, rowid}
-use Rattle.dep_tables.specs.Rowids.{row_at, replaced, is_after, is_below_number, has_number, put_next, InOrder, IsFirst}
+use Rattle.dep_tables.specs.Rowids.{row_at, replaced, is_after, is_below_number, has_number, put_next, InOrder, AreFirst, IsFirst}
 use Rattle.dep_types.specs.declared.rows.ObjectRow.{ObjectRow}
 use Rattle.dep_types.specs.declared.rows.FileRow.{FileRow}
 use Rattle.dep_tables.specs.declared.state.StateRow.{StateRow}
@@ -90,6 +91,16 @@ abbrev pub IsLastText : (object : ℕ) → (name : List ℕ) → Tables → Opti
 IsLastText object name t found =
     IsFirst by_falling_place (map (shown_number 3) (filter (is_text_of object name) t.metadata))
     (map (λ n. Int (pos n) ∷ []) (option_to_list found))
+
+-- how many texts are found at most, where they are read in pages
+abbrev pub page_size : ℕ
+page_size = 512
+
+-- a page of the texts that pass a test: the first of them by name and place
+abbrev pub AreFirstTexts : (test : Row → Bool) → Tables → List MetadataRow → Type 0
+AreFirstTexts test t found =
+    AreFirst page_size by_name_and_place (map shown_metadata (filter test t.metadata))
+    (map metadata_values found)
 
 -- ---- files
 

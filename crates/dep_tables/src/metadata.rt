@@ -2,16 +2,16 @@
 
 ghost use Rattle.std.specs.Prelude.{◌≡◌, ◌<◌, ◌^◌, ◌↔◌, IsTrue};
 ghost use Rattle.sqlite.specs.Values.{bound};
-ghost use Rattle.dep_tables.specs.Rows.{IsStorableMetadata, metadata_values, name_values};
+ghost use Rattle.dep_tables.specs.Rows.{IsStorableMetadata, metadata_values, name_values, text_key_values};
 ghost use Rattle.dep_tables.specs.Edits.{LacksMetadataRow};
 ghost use Rattle.dep_tables.specs.Clauses.{Shows, Writes, Queries};
-ghost use Rattle.dep_tables.specs.Statements.{insertion_of_metadata, deletion_of_metadata, query_of_metadata, query_of_last_text};
+ghost use Rattle.dep_tables.specs.Statements.{insertion_of_metadata, deletion_of_metadata, query_of_metadata, query_of_last_text, query_of_texts_from, query_of_texts_above};
 
 use crate::calls::Statements;
 use crate::columns::ColumnKind::{self, Number};
 use crate::keyed::{ask_all_by_key, run_by_key};
 use crate::numbers::{LIMIT, number, number_at};
-use crate::reading::{FromRow, ask_one};
+use crate::reading::{FromRow, ask_all, ask_one};
 use crate::texts::{text_at, text_value};
 use dep_types::{StoreFault, Text};
 use sqlite::Row;
@@ -136,6 +136,62 @@ pub fn last_text<T: Statements>(
     ask_one(
         tx,
         "SELECT place FROM metadata WHERE object = ?1 AND name = ?2 ORDER BY place DESC LIMIT 1",
+        &name_params(object, name),
+    )
+}
+
+fn text_key_params(object: u64, name: &Text, place: u64) -> [ValueRef<'_>; 3]
+    requires object { object < 2 ^ 63 }
+    requires place { place < 2 ^ 63 }
+    ensures { bound result ≡ text_key_values object name.now place }
+{
+    [
+        ValueRef::Int(number(object)),
+        text_value(name),
+        ValueRef::Int(number(place)),
+    ]
+}
+
+/// Returns at most 512 rows: the first of a name of an object, from a place on, by place. It is a fault of
+/// the store where one is not one that `insert_metadata` writes, and for a number of 2^63 or more.
+pub fn texts_from<T: Statements>(
+    tx: &mut T,
+    alloc: Global,
+    object: u64,
+    name: &Text,
+    place: u64,
+) -> Result<Vec<MetadataRow>, StoreFault>
+    ensures does { Queries T.lenders T.state tx.old tx.new result (query_of_texts_from object name.now place) }
+{
+    if object >= LIMIT || place >= LIMIT {
+        return Err(StoreFault::Store);
+    }
+    ask_all(
+        tx,
+        alloc,
+        "SELECT object, name, place, value FROM metadata WHERE object = ?1 AND name = ?2 AND place >= ?3 ORDER BY name, place LIMIT 512",
+        &text_key_params(object, name, place),
+    )
+}
+
+/// Returns at most 512 rows: the first of an object whose names are above this one, as bytes are, by name and
+/// place. It is a fault of the store where one is not one that `insert_metadata` writes, and for a number of
+/// 2^63 or more.
+pub fn texts_above<T: Statements>(
+    tx: &mut T,
+    alloc: Global,
+    object: u64,
+    name: &Text,
+) -> Result<Vec<MetadataRow>, StoreFault>
+    ensures does { Queries T.lenders T.state tx.old tx.new result (query_of_texts_above object name.now) }
+{
+    if object >= LIMIT {
+        return Err(StoreFault::Store);
+    }
+    ask_all(
+        tx,
+        alloc,
+        "SELECT object, name, place, value FROM metadata WHERE object = ?1 AND name > ?2 ORDER BY name, place LIMIT 512",
         &name_params(object, name),
     )
 }
