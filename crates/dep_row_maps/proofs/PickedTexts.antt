@@ -1,5 +1,5 @@
 -- Some texts of an object, picked by name and place.
-use Rattle.std.proofs.Common.{◌≡◌, ℕ, ◌+◌, Bool, true, false, ◌&&◌, cond, T, List, [], ◌∷◌, ◌++◌, map, filter, unwrap_or, Some, None, Ordering, Less, Equal, Greater, refl, sym, ap, subst, ◌∙◌, is_eq, append-nil}
+use Rattle.std.proofs.Common.{◌≡◌, ℕ, ◌+◌, Bool, true, false, ◌&&◌, cond, T, List, [], ◌∷◌, ◌++◌, map, take, filter, unwrap_or, Some, None, Ordering, Less, Equal, Greater, refl, sym, ap, subst, ◌∙◌, is_eq, append-nil}
 use Rattle.std.specs.Ordering.{ordering_reverse}
 use Rattle.std.specs.List.{AllByRecursion, flat_map}
 use Rattle.std.specs.List.Sorted.{IsPermutation}
@@ -7,19 +7,21 @@ use Rattle.std.specs.FinMap as finmap
 use Rattle.std.specs.FinMap.Entries.{find, is_sorted}
 use Rattle.std.proofs.lemmas.Cmp.{nat_list_cmp_total}
 use Rattle.std.proofs.lemmas.List.Elements.{filter-append}
-use Rattle.std.proofs.lemmas.List.Sorted.{IsPermutation-map}
+use Rattle.std.proofs.lemmas.List.Sorted.{IsPermutation-map, IsPermutation-sym, IsPermutation-trans}
 use Rattle.sqlite.specs.declared.types.Value.TheVariants.{Text}
 use Rattle.sqlite_value.specs.Order.{Row, column, value_cmp}
 use Rattle.sqlite_value.proofs.OrderLemmas.{value_cmp-Text}
-use Rattle.sqlite_trees.proofs.ListLemmas.{IsPermutation-filter, filter_all, filter_none}
+use Rattle.sqlite_trees.proofs.ListLemmas.{IsPermutation-filter, ascending-filter, filter_all, filter_none}
 use Rattle.dep_types.specs.State.{Texts}
-use Rattle.dep_tables.specs.Rows.{is_text_of, shown_metadata, shown_number}
+use Rattle.dep_tables.proofs.Sorted.{sorted_is}
+use Rattle.dep_tables.specs.Edits.{page_size}
+use Rattle.dep_tables.specs.Rows.{by_name_and_place, is_text_of, shown_metadata, shown_number}
 use Rattle.dep_row_maps.specs.Owned.{placed}
 use Rattle.dep_row_maps.specs.Stored.{is_row_of, metadata_rows, text_rows, text_values, texts_under}
 use Rattle.dep_row_maps.specs.TablesAre.{MetadataAre, metadata_at}
-use Rattle.dep_row_maps.specs.ReadLaws.{LastTextRead}
+use Rattle.dep_row_maps.specs.ReadLaws.{LastTextRead, TextsPageRead}
 use Rattle.dep_row_maps.proofs.LastBlock.{last_found, place_row}
-use Rattle.dep_row_maps.proofs.Metadata.{by_bytes, bytes_same}
+use Rattle.dep_row_maps.proofs.Metadata.{Below, by_bytes, by_name_total, bytes_same, metadata_rises}
 use Rattle.dep_row_maps.proofs.Spreads.{all_placed, both, missing}
 
 -- of the rows that pass a test, those of an object are its rows that pass
@@ -33,6 +35,15 @@ picked_texts n test seen splits (r ∷ rows) = go (is_row_of n r) refl (seen (sh
     go false is b passes more = rw (splits r, is) more
     go true is false passes more = rw (splits r, is, passes) more
     go true is true passes more = rw (splits r, is, passes) (ap (λ vs. shown_metadata r ∷ vs) more)
+
+-- a page of them
+pub texts_page_read : TextsPageRead
+texts_page_read t s h n test seen splits found (all, order, is) =
+    let its = metadata_rows n (metadata_at s.objects n) in
+    let same : IsPermutation (filter seen its) all =
+    IsPermutation-trans _ _ _ (IsPermutation-filter seen _ _ (IsPermutation-sym _ _ (h.common.metadata.of_each n)))
+    (subst (λ rows. IsPermutation rows all) (picked_texts n test seen splits t.metadata) order.same) in
+    is ∙ ap (take page_size) (sorted_is by_name_and_place by_name_total (filter seen its) all (ascending-filter Below seen its (metadata_rises n (metadata_at s.objects n))) same order.sorted)
 
 -- ---- the texts of one name
 
