@@ -1,5 +1,5 @@
 -- Texts of an object that were read ahead.
-use Rattle.std.proofs.Common.{◌≡◌, ◌∙◌, true, ℕ, Option, Some, None, List, refl, sym, ap, subst, map as each}
+use Rattle.std.proofs.Common.{◌≡◌, ◌∙◌, true, false, Option, Some, None, fold, map as each, refl, sym, ap, subst}
 use Rattle.std.specs.Prelude.{option_map}
 use Rattle.std.specs.Option.{option_map_or}
 use Rattle.std.specs.FinMap as finmap
@@ -7,11 +7,15 @@ use Rattle.dep_types.specs.State.{State, Object, Texts}
 use Rattle.dep_types.specs.Sound.{IsSound}
 use Rattle.dep_types.specs.Rows.{object_row}
 use Rattle.dep_types.specs.declared.rows.ObjectRow.{ObjectRow}
-use Rattle.dep_row_maps.specs.Stored.{grouped, listed}
+use Rattle.dep_row_maps.specs.Stored.{grouped, listed, metadata_rows, pair_seen, with_added_text}
 use Rattle.dep_row_maps.specs.TablesAre.{metadata_at}
+use Rattle.dep_row_maps.specs.ReadLaws.{pair_of}
 use Rattle.dep_objects.specs.Objects.{HasRow, IsDescribed}
-use Rattle.dep_objects.specs.Ahead.{IsRead, AreFirst}
+use Rattle.dep_objects.specs.Ahead.{AreFirst, IsPage, IsRead, rows_before}
+use Rattle.dep_objects.specs.Texts.{closed}
+use Rattle.dep_objects.specs.declared.ahead.Page.{Page}
 use Rattle.dep_objects.specs.declared.ahead.ReadTexts.{ReadTexts}
+use Rattle.dep_objects.proofs.Pages.{page_gathered}
 use Rattle.dep_objects.proofs.Puts.{described}
 
 -- the object whose row this is
@@ -33,3 +37,14 @@ whole_described s row read sound are has same tag whole =
     let texts = (are.texts its.0 there tagged).whole whole in
     described s row.object row read.metadata sound has
     (texts ∙ ap (λ m. grouped (listed m)) (sym (ap (λ x. option_map_or (λ (y : Object). y.metadata) x finmap.empty) its.1.0)))
+
+-- what the texts come to with those of a page
+pub with_texts_of : (s : State) (read : ReadTexts) (page : Page) (o : Object) → finmap.get s.objects read.object ≡ Some o → AreFirst o.metadata read → read.is_whole ≡ false
+    → IsPage (metadata_rows read.object (metadata_at s.objects read.object)) read.next page → (kept : Texts) → kept ≡ fold with_added_text (closed read.metadata read.last) (each pair_of page.rows.items)
+    → kept ≡ grouped (each pair_seen (rows_before page.next (metadata_rows read.object o.metadata)))
+with_texts_of s read page o there first part page_is kept is =
+    let n = read.object in
+    let its : metadata_at s.objects n ≡ o.metadata = ap (λ x. option_map_or (λ (y : Object). y.metadata) x finmap.empty) there in
+    let rows : IsPage (metadata_rows n o.metadata) read.next page = subst (λ m. IsPage (metadata_rows n m) read.next page) its page_is in
+    is ∙ ap (λ m. fold with_added_text m (each pair_of page.rows.items)) (first.part part) ∙ page_gathered n o.metadata (rows_before (Some read.next) (metadata_rows n o.metadata)) page.rows.items
+    ∙ ap (λ rs. grouped (each pair_seen rs)) (sym rows)

@@ -1,4 +1,5 @@
 pub mod Puts
 pub mod Named
+pub mod Pages
 pub mod Appending
 pub mod AheadTexts

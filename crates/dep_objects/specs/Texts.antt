@@ -1,5 +1,5 @@
 -- Texts that are put in behind others, and texts that are gathered.
-use Rattle.std.specs.Prelude.{◌≡◌, ℕ, List, length, map as map_each, Option, Some, None}
+use Rattle.std.specs.Prelude.{◌≡◌, ℕ, List, map as map_each, Option, Some, None}
 use Rattle.std.specs.List.{flat_map}
 use Rattle.std.specs.FinMap as map
 use Rattle.sqlite_value.specs.Order.{Row}
@@ -8,13 +8,13 @@ use Rattle.dep_types.specs.MetadataEntries.{joined, name_and_texts}
 use Rattle.dep_types.specs.declared.metadata.MetadataEntry.{MetadataEntry}
 use Rattle.dep_tables.specs.Tables.{Tables}
 use Rattle.dep_row_maps.specs.Owned.{placed, put_each}
-use Rattle.dep_row_maps.specs.Stored.{text_values, texts_under}
+use Rattle.dep_row_maps.specs.Stored.{text_rows, text_values}
 use Rattle.dep_row_maps.specs.TablesAre.{with_metadata, with_object}
 use Rattle.dep_objects.specs.declared.gathering.NamedTexts.{NamedTexts}
 
--- the rows of these texts, where each name's stand behind those that it has
-abbrev pub rows_beside : ℕ → Texts → List (List ℕ × List (List ℕ)) → List Row
-rows_beside n have = flat_map (λ e. placed (text_values n e.0) (length (texts_under have e.0)) e.1)
+-- the rows of the texts of these names, name by name
+abbrev pub entry_rows : ℕ → List MetadataEntry → List Row
+entry_rows n es = flat_map (λ e. text_rows n e.0 e.1) (map_each name_and_texts es)
 
 -- the tables with these rows of texts put in
 abbrev pub with_texts : List Row → Tables → Tables
@@ -24,9 +24,9 @@ with_texts rows t = record t { metadata = put_each rows t.metadata }
 abbrev pub with_entry : (n start : ℕ) → MetadataEntry → Tables → Tables
 with_entry n start e = with_texts (placed (text_values n e.name) start e.texts)
 
--- and of some names, each behind the texts that it has
-abbrev pub with_entries : ℕ → Texts → List MetadataEntry → Tables → Tables
-with_entries n have es = with_texts (rows_beside n have (map_each name_and_texts es))
+-- and of some names, each from the first place on
+abbrev pub with_entries : ℕ → List MetadataEntry → Tables → Tables
+with_entries n es = with_texts (entry_rows n es)
 
 -- the metadata with the texts of the name that is gathered last
 abbrev pub closed : Texts → Option NamedTexts → Texts

@@ -1,21 +1,41 @@
 //! The texts of an object that are read before a request needs them, some at a time.
 
-ghost use Rattle.std.specs.Prelude.{◌≡◌, IfOk, IfSome};
+ghost use Rattle.std.specs.Prelude.{◌≡◌, ◌-◌, false, length, option_map, IfOk, IfSome};
+ghost use Rattle.std.specs.List.{slice_get};
 ghost use Rattle.dep_types.specs.State.{State};
 ghost use Rattle.dep_types.specs.Sound.{IsSound};
-ghost use Rattle.dep_row_maps.specs.Clauses.{ReadsOver};
+ghost use Rattle.dep_row_maps.specs.Stored.{metadata_rows};
+ghost use Rattle.dep_row_maps.specs.TablesAre.{metadata_at};
+ghost use Rattle.dep_row_maps.specs.Clauses.{ReadsMaps, ReadsOver};
 ghost use Rattle.dep_objects.specs.Objects.{HasRow, IsDescribed};
-ghost use Rattle.dep_objects.specs.Ahead.{AreRead, IsRead, KeepsRead};
+ghost use Rattle.dep_objects.specs.Ahead.{AreRead, IsPage, IsRead, KeepsRead, key_after};
 
 use crate::gathering::{NamedTexts, close, gather_rows};
 use crate::objects::find_object;
-use dep_tables::{Statements, metadata_of};
-use dep_types::{Metadata, ObjectRow, StoreFault};
+use dep_tables::{LIMIT, MetadataRow, Statements, texts_above, texts_from};
+use dep_types::{Metadata, ObjectRow, StoreFault, Text};
 use std::alloc::Global;
 
 /// So many requests for texts of other objects may be held back, one after another, while those of one object are read:
 /// as many as there are connections, so that the request for which they are read has had its turn.
 const MOST_HELD: u32 = 1_024;
+
+/// So many rows has a page of texts, where more are left.
+const PAGE_SIZE: usize = 512;
+
+/// A name, and a place among its texts.
+#[derive(Drop)]
+pub(crate) struct TextKey {
+    name: Text,
+    place: u64,
+}
+
+/// Rows of texts that follow one another, and where those begin that are left, if any is.
+#[derive(Drop)]
+pub(crate) struct Page {
+    rows: Vec<MetadataRow>,
+    next: Option<TextKey>,
+}
 
 /// The texts of one state of an object, as far as they were read.
 #[derive(Drop)]
@@ -26,6 +46,8 @@ pub(crate) struct ReadTexts {
     metadata: Metadata,
     /// The name that was read last, and its texts so far.
     last: Option<NamedTexts>,
+    /// Where those begin that are left, unless all of them were read.
+    next: TextKey,
     is_whole: bool,
 }
 
@@ -103,31 +125,96 @@ impl ReadTexts {
             tag: row.object_tag,
             metadata: Metadata::new(alloc),
             last: None,
+            next: TextKey {
+                name: Text::new(String::new(alloc)),
+                place: 0,
+            },
             is_whole: false,
         }
     }
 }
 
-// Reads the next texts.
+// Where the texts begin behind the last of these rows, if there is one.
+fn key_behind(alloc: Global, rows: &[MetadataRow]) -> Result<Option<TextKey>, StoreFault>
+    ensures { IfOk result (λ next. next
+        ≡ option_map key_after (slice_get rows.now (length rows.now - 1))) }
+{
+    let Some(row) = rows.last() else {
+        return Ok(None);
+    };
+    if row.place >= LIMIT {
+        return Err(StoreFault::Store);
+    }
+    Ok(Some(TextKey {
+        name: Text::copied(alloc, row.name.as_str())?,
+        place: row.place + 1,
+    }))
+}
+
+// Reads the next page of an object's texts, from this key on: those of its name, and where none of it is left, those of
+// the names above it.
+fn next_page<T: Statements>(
+    tx: &mut T,
+    alloc: Global,
+    object: u64,
+    from: &TextKey,
+) -> Result<Page, StoreFault>
+    ensures does { ReadsMaps T.lenders T.state tx.old tx.new result
+        (λ s. IsPage (metadata_rows object (metadata_at s.objects object)) from.now) }
+{
+    let rows = texts_from(tx, alloc, object, &from.name, from.place)?;
+    if !rows.is_empty() {
+        let next = key_behind(alloc, rows.as_slice())?;
+        return Ok(Page { rows, next });
+    }
+    let rows = texts_above(tx, alloc, object, &from.name)?;
+    if rows.len() < PAGE_SIZE {
+        return Ok(Page { rows, next: None });
+    }
+    let next = key_behind(alloc, rows.as_slice())?;
+    Ok(Page { rows, next })
+}
+
+// Gathers the texts of a page behind those that were read.
+fn with_page(alloc: Global, read: ReadTexts, page: Page) -> Result<ReadTexts, StoreFault>
+    ensures { IfOk result (λ now. (s : State) → read.is_whole ≡ false → IsRead s read
+        → IsPage (metadata_rows read.object (metadata_at s.objects read.object)) read.next page
+        → IsRead s now) }
+{
+    let mut metadata = read.metadata;
+    let last = gather_rows(alloc, &mut metadata, read.last, page.rows)?;
+    let Some(next) = page.next else {
+        close(&mut metadata, last)?;
+        return Ok(ReadTexts {
+            object: read.object,
+            tag: read.tag,
+            metadata,
+            last: None,
+            next: read.next,
+            is_whole: true,
+        });
+    };
+    Ok(ReadTexts {
+        object: read.object,
+        tag: read.tag,
+        metadata,
+        last,
+        next,
+        is_whole: false,
+    })
+}
+
+// Reads the next texts of an object of which some may be left.
 fn read_on<T: Statements>(
     tx: &mut T,
     alloc: Global,
     read: ReadTexts,
 ) -> Result<ReadTexts, StoreFault>
     ensures does { ReadsOver T.lenders T.state tx.old tx.new result
-        (λ s. IsRead s read → IfOk result (IsRead s)) }
+        (λ s. read.is_whole ≡ false → IsRead s read → IfOk result (IsRead s)) }
 {
-    let rows = metadata_of(tx, alloc, read.object)?;
-    let mut metadata = Metadata::new(alloc);
-    let last = gather_rows(alloc, &mut metadata, None, rows)?;
-    close(&mut metadata, last)?;
-    Ok(ReadTexts {
-        object: read.object,
-        tag: read.tag,
-        metadata,
-        last: None,
-        is_whole: true,
-    })
+    let page = next_page(tx, alloc, read.object, &read.next)?;
+    with_page(alloc, read, page)
 }
 
 /// Reads texts of an object, if it is there, which a request that shows all of them takes out then

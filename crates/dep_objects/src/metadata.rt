@@ -3,11 +3,11 @@
 ghost use Rattle.std.specs.Prelude.{◌≡◌, ◌<◌, ◌^◌, IfOk, length};
 ghost use Rattle.std.specs.FinMap as map;
 ghost use Rattle.dep_row_maps.specs.Stored.{text_row, texts_under};
-ghost use Rattle.dep_row_maps.specs.Clauses.{ChangesMaps, ChangesTables};
+ghost use Rattle.dep_row_maps.specs.TablesAre.{metadata_at};
+ghost use Rattle.dep_row_maps.specs.Clauses.{ChangesMaps, ChangesTables, ReadsMaps};
 ghost use Rattle.dep_objects.specs.Texts.{with_entry, with_entries, AppendsMetadata, SetsMetadata};
 
-use crate::gathering::load_metadata;
-use dep_tables::{LIMIT, MetadataRow, Statements, delete_metadata, insert_metadata};
+use dep_tables::{LIMIT, MetadataRow, Statements, delete_metadata, insert_metadata, last_text};
 use dep_types::{Metadata, MetadataEntry, StoreFault, Text};
 use std::alloc::{AllocError, Global};
 
@@ -53,30 +53,34 @@ fn put_texts<T: Statements>(
     Ok(())
 }
 
-fn count_of(metadata: &Metadata, name: &Text) -> u64
-    ensures { result ≡ length (texts_under metadata.now name.now) }
-{
-    match metadata.get(name.as_str()) {
-        Some(texts) => texts.as_slice().len() as u64,
-        None => 0,
-    }
-}
-
-// Puts in texts behind those that the object has.
+// Puts in texts where the object has none.
 fn put_entries<T: Statements>(
     tx: &mut T,
     alloc: Global,
     object: u64,
-    have: &Metadata,
     entries: &[MetadataEntry],
 ) -> Result<(), StoreFault>
     ensures does { ChangesTables T.lenders T.state tx.old tx.new result
-        (with_entries object have.now entries.now) }
+        (with_entries object entries.now) }
 {
     'entries: for entry in entries {
-        put_texts(tx, alloc, object, entry, count_of(have, &entry.name))?;
+        put_texts(tx, alloc, object, entry, 0)?;
     }
     Ok(())
+}
+
+// How many texts the object has under a name.
+fn count_of<T: Statements>(tx: &mut T, object: u64, name: &Text) -> Result<u64, StoreFault>
+    ensures does { ReadsMaps T.lenders T.state tx.old tx.new result
+        (λ s count. count ≡ length (texts_under (metadata_at s.objects object) name.now)) }
+{
+    let Some(place) = last_text(tx, object, name)? else {
+        return Ok(0);
+    };
+    if place >= LIMIT {
+        return Err(StoreFault::Store);
+    }
+    Ok(place + 1)
 }
 
 /// Gives an object that is there this metadata in place of its own. A number of 2^63 or more is a fault
@@ -90,7 +94,7 @@ pub fn set_metadata<T: Statements>(
     ensures does { ChangesMaps T.lenders T.state tx.old tx.new result (SetsMetadata object metadata.now) }
 {
     delete_metadata(tx, object)?;
-    put_entries(tx, alloc, object, &Metadata::new(alloc), metadata.entries())
+    put_entries(tx, alloc, object, metadata.entries())
 }
 
 /// Puts the texts of each name behind those that an object that is there has. A number of 2^63 or more
@@ -104,6 +108,9 @@ pub fn append_metadata<T: Statements>(
     ensures does { ChangesMaps T.lenders T.state tx.old tx.new result
         (AppendsMetadata object more.now) }
 {
-    let have = load_metadata(tx, alloc, object)?;
-    put_entries(tx, alloc, object, &have, more.entries())
+    'entries: for entry in more.entries() {
+        let start = count_of(tx, object, &entry.name)?;
+        put_texts(tx, alloc, object, entry, start)?;
+    }
+    Ok(())
 }

@@ -41,7 +41,7 @@ empty_part m part none =
 
 -- ---- the places of a part
 
-abbrev place_row : ℕ → List ℕ → Row
+abbrev pub place_row : ℕ → List ℕ → Row
 place_row i block = Int (pos i) ∷ []
 
 -- those of an owner's blocks that are of the part

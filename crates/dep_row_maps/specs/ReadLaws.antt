@@ -1,7 +1,7 @@
 -- What is read of tables, by the state that they are.
-use Rattle.std.specs.Prelude.{◌≡◌, ◌≢◌, ℕ, List, [], length, filter, Option, Some, None, option_map, option_and_then, find, map as each, nat_eq}
+use Rattle.std.specs.Prelude.{◌≡◌, ◌≢◌, ℕ, ◌+◌, Bool, ◌&&◌, List, [], length, take, filter, Option, Some, None, option_map, option_and_then, find, map as each, nat_eq}
 use Rattle.std.specs.List.{flat_map, slice_get}
-use Rattle.std.specs.Option.{option_to_list}
+use Rattle.std.specs.Option.{option_map_or, option_to_list}
 use Rattle.std.specs.FinMap as map
 use Rattle.sha2.specs.Sha512.{sha512}
 use Rattle.sqlite.specs.declared.types.Value.TheVariants.{Blob}
@@ -15,16 +15,16 @@ use Rattle.dep_types.specs.declared.rows.ObjectRow.{ObjectRow}
 use Rattle.dep_types.specs.declared.rows.FileRow.{FileRow}
 use Rattle.dep_tables.specs.Rowids.{IsOrdered, row_at, is_after}
 use Rattle.dep_tables.specs.Tables.{Tables}
-use Rattle.dep_tables.specs.Edits.{HasStateRow, IsObjectRowAt, IsObjectAfter, AreMetadataRowsOf, IsFileRowAt, AreFileRowsOf, IsUploadRowAt, AreSegmentRowsOf, AreBytesAt, IsSha512Of}
+use Rattle.dep_tables.specs.Edits.{HasStateRow, IsObjectRowAt, IsObjectAfter, AreMetadataRowsOf, IsLastText, page_size, AreFirstTexts, IsFileRowAt, AreFileRowsOf, IsUploadRowAt, AreSegmentRowsOf, AreBytesAt, IsSha512Of}
 use Rattle.dep_tables.specs.declared.uploads.UploadColumns.{UploadColumns}
-use Rattle.dep_tables.specs.Rows.{metadata_values, columns_of_upload}
+use Rattle.dep_tables.specs.Rows.{metadata_values, shown_metadata, columns_of_upload}
 use Rattle.dep_tables.specs.declared.state.StateRow.{StateRow}
 use Rattle.dep_tables.specs.declared.metadata.MetadataRow.{MetadataRow}
 use Rattle.dep_tables.specs.declared.segments.SegmentRow.{SegmentRow}
 use Rattle.dep_tables.specs.declared.owner.BlockOwner.{BlockOwner}
 use Rattle.dep_tables.specs.declared.owner.BlockOwner.TheVariants as owner
 use Rattle.dep_row_maps.specs.Keyed.{rows_of, next_entry}
-use Rattle.dep_row_maps.specs.Stored.{state_row, state_stored, object_stored, file_stored, upload_stored, is_file_of, metadata_rows, listed, grouped, segment_row, blocks_of, block_key, bytes_seen}
+use Rattle.dep_row_maps.specs.Stored.{state_row, state_stored, object_stored, file_stored, upload_stored, is_row_of, is_file_of, metadata_rows, listed, grouped, segment_row, texts_under, blocks_of, block_key, bytes_seen}
 use Rattle.dep_row_maps.specs.TablesAre.{metadata_at, files_at, segments_at, promised_at}
 use Rattle.dep_row_maps.specs.Laws.{HoldsOfTables, HasSegmentsWithin, AreBlocksOf}
 
@@ -77,6 +77,21 @@ TextsRead = HoldsOfTables (λ t s. (n : ℕ) (found : List MetadataRow) → AreM
 -- texts that are listed can be grouped again, where each name has a text at least
 abbrev pub TextsGrouped : Type 0
 TextsGrouped = (m : Texts) → ((name : List ℕ) → map.get m name ≢ Some []) → grouped (listed m) ≡ m
+
+-- where only texts of one object pass a test, a page of them has the first of its rows that pass
+abbrev pub TextsPageRead : Type 0
+TextsPageRead = HoldsOfTables (λ t s. (n : ℕ) (test seen : Row → Bool)
+    → ((r : Row) → test r ≡ (is_row_of n r && seen (shown_metadata r)))
+    → (found : List MetadataRow) → AreFirstTexts test t found
+    → each metadata_values found
+    ≡ take page_size (filter seen (metadata_rows n (metadata_at s.objects n))))
+
+-- behind the place of the last text of a name stands the next one: so many texts has the name
+abbrev pub LastTextRead : Type 0
+LastTextRead = HoldsOfTables (λ t s. (n : ℕ) (name : List ℕ) (found : Option ℕ)
+    → IsLastText n name t found
+    → option_map_or (λ place. place + 1) found 0
+    ≡ length (texts_under (metadata_at s.objects n) name))
 
 -- a number of a file is in one object at most
 abbrev pub FileFound : Type 0

@@ -1,5 +1,5 @@
 -- What is read from rows, by the rows of a table that the query shows.
-use Rattle.std.proofs.Common.{◌≡◌, ◌≤◌, arith, take, length, ℕ, List, [], ◌∷◌, map, Ordering, Option, Some, None, is_some, refl, sym, ap, subst, ◌∙◌}
+use Rattle.std.proofs.Common.{◌≡◌, ◌≤◌, arith, take, length, ℕ, zero, suc, List, [], ◌∷◌, map, Ordering, Option, Some, None, is_some, refl, sym, ap, subst, ◌∙◌}
 use Rattle.std.specs.Option.{option_to_list, option_map}
 use Rattle.std.specs.List.Sorted.{IsPermutation}
 use Rattle.std.proofs.lemmas.List.{length-map}
@@ -8,7 +8,7 @@ use Rattle.sqlite.specs.declared.types.Value.{Value}
 use Rattle.sqlite.specs.Order.{Row}
 use Rattle.sqlite_rules.specs.Lists.{Has}
 use Rattle.sqlite_rules.proofs.ListLemmas.{all_from}
-use Rattle.dep_tables.specs.Rowids.{columns_from, InOrder, IsFirst}
+use Rattle.dep_tables.specs.Rowids.{columns_from, InOrder, AreFirst, IsFirst}
 use Rattle.dep_tables.proofs.Sorted.{short_permutation}
 use Rattle.dep_tables.proofs.Members.{map_same, mapped_from, permuted_from}
 
@@ -52,20 +52,25 @@ module _ {R S : Type 0} (values : R → Row) (width : ℕ) (see : S → Row) (wh
       go (Some r) None e = absurd (cc)
       go (Some r) (Some row) e = let same : values r ≡ see row = cc in ap Some same
 
-take_none : {X : Type 0} (xs : List X) → take 0 xs ≡ []
-take_none [] = refl
-take_none (x ∷ xs) = refl
-
 -- the first of rows in an order
 module _ {R : Type 0} (values : R → Row) (width : ℕ) (see : Row → Row) (whole : (r : Row) → columns_from 0 width (see r) ≡ see r) where
-  taken : (all : List Row) → map (columns_from 0 width) all ≡ all → map (columns_from 0 width) (take 1 all) ≡ take 1 all
-  taken [] is = refl
-  taken (r ∷ all) is = let same : columns_from 0 width r ≡ r = cc in rw (take_none all) (ap (λ x. x ∷ []) same)
+  taken : (count : ℕ) (all : List Row) → map (columns_from 0 width) all ≡ all → map (columns_from 0 width) (take count all) ≡ take count all
+  taken zero [] is = refl
+  taken zero (r ∷ all) is = refl
+  taken (suc count) [] is = refl
+  taken (suc count) (r ∷ all) is =
+      let same : columns_from 0 width r ≡ r = cc in
+      let more : map (columns_from 0 width) all ≡ all = cc in
+      rw same (ap (λ xs. r ∷ xs) (taken count all more))
+
+  pub read_page : (count : ℕ) (cmp : Row → Row → Ordering) (stored rows : List Row) (read : List R) → AreFirst count cmp (map see stored) rows → map values read ≡ map (columns_from 0 width) rows
+      → AreFirst count cmp (map see stored) (map values read)
+  read_page count cmp stored rows read h is =
+      let first : map (columns_from 0 width) rows ≡ take count h.0 = ap (map (columns_from 0 width)) h.2 ∙ taken count h.0 (no_wider values width see whole stored h.0 h.1.same) in
+      (h.0, h.1, is ∙ first)
 
   pub read_first : (cmp : Row → Row → Ordering) (stored rows : List Row) (read : List R) → IsFirst cmp (map see stored) rows → map values read ≡ map (columns_from 0 width) rows → IsFirst cmp (map see stored) (map values read)
-  read_first cmp stored rows read h is =
-      let first : map (columns_from 0 width) rows ≡ take 1 h.0 = ap (map (columns_from 0 width)) h.2 ∙ taken h.0 (no_wider values width see whole stored h.0 h.1.same) in
-      (h.0, h.1, is ∙ first)
+  read_first = read_page 1
 
 -- of rows of one value
 pub one_value : {R : Type 0} (value : R → Value) (see : Row → Value) (found : Option R) (there : Option Row) → option_map (λ r. value r ∷ []) found ≡ option_map (λ r. see r ∷ []) there → option_map value found ≡ option_map see there

@@ -17,14 +17,17 @@ use Rattle.sqlite.proofs.Callers.{IsPlain, command_of, begins_as}
 use Rattle.sqlite_value.specs.declared.keys.Key.{Key}
 use Rattle.sqlite_trees.specs.Tree.{has_rowid}
 use Rattle.dep_tables.specs.Query.{one_table, plainly, no_limit, passes_tests}
-use Rattle.dep_tables.specs.Rowids.{IsOrdered, InOrder, IsFirst}
+use Rattle.dep_tables.specs.Rowids.{IsOrdered, InOrder, AreFirst, IsFirst}
 use Rattle.dep_tables.proofs.Asking.{Picks, answers}
 use Rattle.dep_tables.proofs.Picked.{shown_of, by_rowid, in_any_order, in_order, drop-none}
 use Rattle.dep_tables.proofs.Looking.{by_key, by_next, by_order, same_filter}
 use Rattle.dep_tables.proofs.OneStatement.{selected}
 
+abbrev pub first_ones : ℕ → Term
+first_ones count = lit (Int (pos count))
+
 abbrev pub first_only : Term
-first_only = lit (Int (pos 1))
+first_only = first_ones 1
 
 -- how a text asks
 pub record AsksBy (schema : Schema) (sql : List ℕ) (q : Query) : Type 0 where
@@ -79,13 +82,18 @@ module _ (schema : Schema) (sql : List ℕ) (params : Row) (old : State) (ours :
       pub selects_sorted : (new : State) → Asks schema sql tree tests shows order no_limit → (found : List Row) → Shown sql params old new found → InOrder cmp (map (shown_of params shows) (filter p rows)) found
       selects_sorted new is found h = sorted_pick found (picked new order no_limit is found h)
 
+      -- the same with LIMIT
+      pub selects_page : (count : ℕ) (new : State) → Asks schema sql tree tests shows order (first_ones count) → (found : List Row) → Shown sql params old new found
+          → AreFirst count cmp (map (shown_of params shows) (filter p rows)) found
+      selects_page count new is found h =
+          let pick = picked new order (first_ones count) is found h in
+          let all = map (λ (o : Output). o.1) pick.ordered in
+          (all, sorted_pick all (record { ordered = pick.ordered; same = pick.same; sorted = pick.sorted; shown = sym (drop-none all) }), pick.shown ∙ ap (take count) (drop-none all))
+
       -- the same with LIMIT 1
       pub selects_first : (new : State) → Asks schema sql tree tests shows order first_only → (found : List Row) → Shown sql params old new found
           → IsFirst cmp (map (shown_of params shows) (filter p rows)) found
-      selects_first new is found h =
-          let pick = picked new order first_only is found h in
-          let all = map (λ (o : Output). o.1) pick.ordered in
-          (all, sorted_pick all (record { ordered = pick.ordered; same = pick.same; sorted = pick.sorted; shown = sym (drop-none all) }), pick.shown ∙ ap (take 1) (drop-none all))
+      selects_first = selects_page 1
 
       -- what begins an answer begins one that is in order
       pub begins_sorted : Asks schema sql tree tests shows order no_limit → (given : List Row) → Begins sql params old given

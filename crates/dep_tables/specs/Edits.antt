@@ -4,8 +4,9 @@ use Rattle.std.specs.List.{list_any}
 use Rattle.std.specs.Option.{option_to_list}
 use Rattle.sqlite.specs.declared.types.Value.{Value}
 use Rattle.sqlite.specs.declared.types.Value.TheVariants.{Int}
+use Rattle.sqlite.specs.Order.{Row}
 use Rattle.sqlite_trees.specs.Tree.{put_row, without_rowid, rowid}
-use Rattle.dep_tables.specs.Rowids.{row_at, replaced, is_after, is_below_number, has_number, put_next, InOrder, IsFirst}
+use Rattle.dep_tables.specs.Rowids.{row_at, replaced, is_after, is_below_number, has_number, put_next, InOrder, AreFirst, IsFirst}
 use Rattle.dep_types.specs.declared.rows.ObjectRow.{ObjectRow}
 use Rattle.dep_types.specs.declared.rows.FileRow.{FileRow}
 use Rattle.dep_tables.specs.declared.state.StateRow.{StateRow}
@@ -16,7 +17,7 @@ use Rattle.dep_tables.specs.declared.uploads.UploadColumns.{UploadColumns}
 use Rattle.dep_tables.specs.declared.owner.BlockOwner.{BlockOwner}
 use Rattle.dep_tables.specs.declared.owner.BlockKey.{BlockKey}
 use Rattle.dep_tables.specs.declared.owner.BlockPlace.{BlockPlace}
-use Rattle.dep_tables.specs.Rows.{stored_format, sha512_values, is_sha512_of, value_in, stored_state, state_values, shown_state, stored_object, object_values, shown_object, metadata_values, shown_metadata, has_metadata_key, by_name_and_place, stored_file, file_values, shown_file, stored_upload, upload_values, shown_upload, segment_values, shown_segment, has_segment_key, by_number, stored_number, block_values, bytes_in, shown_place, place_values, is_block, is_block_of, is_part_of, is_earlier_block, moved_to, by_part_and_place, by_falling_place, shown_number, left_values, shown_left, by_last_and_upload}
+use Rattle.dep_tables.specs.Rows.{stored_format, sha512_values, is_sha512_of, value_in, stored_state, state_values, shown_state, stored_object, object_values, shown_object, metadata_values, shown_metadata, is_text_of, has_metadata_key, by_name_and_place, stored_file, file_values, shown_file, stored_upload, upload_values, shown_upload, segment_values, shown_segment, has_segment_key, by_number, stored_number, block_values, bytes_in, shown_place, place_values, is_block, is_block_of, is_part_of, is_earlier_block, moved_to, by_part_and_place, by_falling_place, shown_number, left_values, shown_left, by_last_and_upload}
 use Rattle.dep_tables.specs.Tables.{Tables}
 use Rattle.dep_tables.specs.Versions.{our_version}
 
@@ -83,6 +84,22 @@ LacksMetadataRow row t = list_any (has_metadata_key row) t.metadata ≡ false
 abbrev pub AreMetadataRowsOf : ℕ → Tables → List MetadataRow → Type 0
 AreMetadataRowsOf object t found =
     InOrder by_name_and_place (map shown_metadata (filter (has_number 1 object) t.metadata))
+    (map metadata_values found)
+
+-- the place of the last text of a name of an object
+abbrev pub IsLastText : (object : ℕ) → (name : List ℕ) → Tables → Option ℕ → Type 0
+IsLastText object name t found =
+    IsFirst by_falling_place (map (shown_number 3) (filter (is_text_of object name) t.metadata))
+    (map (λ n. Int (pos n) ∷ []) (option_to_list found))
+
+-- how many texts are found at most, where they are read in pages
+abbrev pub page_size : ℕ
+page_size = 512
+
+-- a page of the texts that pass a test: the first of them by name and place
+abbrev pub AreFirstTexts : (test : Row → Bool) → Tables → List MetadataRow → Type 0
+AreFirstTexts test t found =
+    AreFirst page_size by_name_and_place (map shown_metadata (filter test t.metadata))
     (map metadata_values found)
 
 -- ---- files

@@ -2,13 +2,13 @@
 -- Is..Row says that a row, as a query shows it, has the columns of one that was given.
 use Rattle.std.specs.Prelude.{◌≡◌, ◌⊎◌, ℕ, ◌<◌, ◌^◌, pos, Bool, if◌then◌else◌, ◌&&◌, List, [], ◌∷◌, length, get_or, IsUtf8}
 use Rattle.std.specs.declared.cmp.Ordering.{Ordering}
-use Rattle.std.specs.Ordering.{ordering_then, is_eq}
+use Rattle.std.specs.Ordering.{ordering_then, is_eq, is_gt}
 use Rattle.sqlite.specs.declared.types.Value.{Value}
 use Rattle.sqlite.specs.declared.types.Value.TheVariants.{Null, Int, Text, Blob}
 use Rattle.sqlite.specs.Order.{Row, column}
 use Rattle.sqlite.specs.Values.{or_null}
 use Rattle.sqlite_value.specs.Order.{value_cmp}
-use Rattle.dep_tables.specs.Rowids.{has_number, is_below_number, columns_from}
+use Rattle.dep_tables.specs.Rowids.{has_number, reaches_number, is_below_number, columns_from}
 use Rattle.dep_types.specs.declared.rows.ObjectRow.{ObjectRow}
 use Rattle.dep_types.specs.declared.rows.FileRow.{FileRow}
 use Rattle.dep_types.specs.declared.rows.UploadRow.{UploadRow}
@@ -160,11 +160,32 @@ abbrev pub by_name_and_place : Row → Row → Ordering
 by_name_and_place a b =
     ordering_then (value_cmp (column a 1) (column b 1)) (value_cmp (column a 2) (column b 2))
 
+-- an object and a name
+abbrev pub name_values : (object : ℕ) → (name : List ℕ) → Row
+name_values object name = Int (pos object) ∷ Text name ∷ []
+
+-- an object, a name and a place
+abbrev pub text_key_values : (object : ℕ) → (name : List ℕ) → (place : ℕ) → Row
+text_key_values object name place = Int (pos object) ∷ Text name ∷ Int (pos place) ∷ []
+
+-- a text of this name of the object
+abbrev pub is_text_of : (object : ℕ) → (name : List ℕ) → Row → Bool
+is_text_of object name stored =
+    has_number 1 object stored && is_eq (value_cmp (column stored 2) (Text name))
+
+-- one of this name of the object, at this place or behind it
+abbrev pub is_text_from : (object : ℕ) → (name : List ℕ) → (place : ℕ) → Row → Bool
+is_text_from object name place stored =
+    is_text_of object name stored && reaches_number 3 place stored
+
+-- a text of the object, of a name above this one
+abbrev pub is_text_above : (object : ℕ) → (name : List ℕ) → Row → Bool
+is_text_above object name stored =
+    has_number 1 object stored && is_gt (value_cmp (column stored 2) (Text name))
+
 -- the stored row has this one's object, name and place
 abbrev pub has_metadata_key : MetadataRow → Row → Bool
-has_metadata_key r stored =
-    has_number 1 r.object stored && is_eq (value_cmp (column stored 2) (Text r.name))
-    && has_number 3 r.place stored
+has_metadata_key r stored = is_text_of r.object r.name stored && has_number 3 r.place stored
 
 -- the object and the place are ones of SQL's numbers
 pub record IsStorableMetadata (r : MetadataRow) : Type 0 where

@@ -13,8 +13,8 @@ use Rattle.dep_tables.specs.declared.uploads.UploadColumns.{UploadColumns}
 use Rattle.dep_tables.specs.declared.owner.BlockOwner.{BlockOwner}
 use Rattle.dep_tables.specs.declared.owner.BlockKey.{BlockKey}
 use Rattle.dep_tables.specs.declared.owner.BlockPlace.{BlockPlace}
-use Rattle.dep_tables.specs.Rows.{IsStorableState, state_values, IsStateRow, IsStorableObject, object_values, IsObjectRow, IsNumberRow, IsStorableMetadata, metadata_values, IsMetadataRow, IsStorableFile, file_values, IsFileRow, IsStorableUpload, upload_values, IsUploadRow, IsLeftRow, IsStorableSegment, segment_values, IsSegmentRow, IsStorableOwner, owner_values, IsStorablePart, part_values, IsStorableKey, key_values, block_values, move_values, move_run_values, IsBytesRow, IsPlaceRow, sha512_values, IsSha512Row}
-use Rattle.dep_tables.specs.Edits.{with_our_version, with_state_row, HasStateRow, with_new_object_row, with_object_row, without_object_row, IsObjectRowAt, IsObjectAfter, with_new_metadata_row, without_metadata_rows, AreMetadataRowsOf, with_new_file_row, without_file_row, without_file_rows, IsFileRowAt, AreFileRowsOf, with_new_upload_row, with_upload_row, without_upload_row, IsUploadRowAt, IsUploadAfter, IsLeftBefore, with_new_segment_row, without_segment_rows, AreSegmentRowsOf, with_timed_out, has_timed_out, with_new_block, without_blocks_of, without_run, with_blocks_moved, with_run_moved, AreBytesAt, IsFirstBlock, IsLastPlace, with_new_sha512, without_sha512, IsSha512Of}
+use Rattle.dep_tables.specs.Rows.{IsStorableState, state_values, IsStateRow, IsStorableObject, object_values, IsObjectRow, IsNumberRow, IsStorableMetadata, metadata_values, name_values, text_key_values, is_text_from, is_text_above, IsMetadataRow, IsStorableFile, file_values, IsFileRow, IsStorableUpload, upload_values, IsUploadRow, IsLeftRow, IsStorableSegment, segment_values, IsSegmentRow, IsStorableOwner, owner_values, IsStorablePart, part_values, IsStorableKey, key_values, block_values, move_values, move_run_values, IsBytesRow, IsPlaceRow, sha512_values, IsSha512Row}
+use Rattle.dep_tables.specs.Edits.{with_our_version, with_state_row, HasStateRow, with_new_object_row, with_object_row, without_object_row, IsObjectRowAt, IsObjectAfter, with_new_metadata_row, without_metadata_rows, AreMetadataRowsOf, IsLastText, AreFirstTexts, with_new_file_row, without_file_row, without_file_rows, IsFileRowAt, AreFileRowsOf, with_new_upload_row, with_upload_row, without_upload_row, IsUploadRowAt, IsUploadAfter, IsLeftBefore, with_new_segment_row, without_segment_rows, AreSegmentRowsOf, with_timed_out, has_timed_out, with_new_block, without_blocks_of, without_run, with_blocks_moved, with_run_moved, AreBytesAt, IsFirstBlock, IsLastPlace, with_new_sha512, without_sha512, IsSha512Of}
 use Rattle.dep_tables.specs.Tables.{Tables}
 use Rattle.dep_tables.specs.Clauses.{Statement, Query, AtMostOne, JustOne}
 use Rattle.dep_tables.specs.Texts as text
@@ -118,6 +118,28 @@ abbrev pub query_of_metadata : {Z : Type 0} → (object : ℕ) → Query (Vec Me
 query_of_metadata =
     key_query text.metadata_of_text (All IsMetadataRow) ⊤
     (λ object t found. AreMetadataRowsOf object t found.items)
+
+-- the place of the last text of a name of an object is read
+abbrev pub query_of_last_text : (object : ℕ) → (name : List ℕ) → Query (Option ℕ)
+query_of_last_text object =
+    row_query text.last_text_text (λ name. object < 2 ^ 63) (name_values object)
+    (AtMostOne IsNumberRow) ⊥ (IsLastText object)
+
+-- the next texts of a name of an object, from a place on, are read
+abbrev pub query_of_texts_from : {Z : Type 0} → (object : ℕ) → (name : List ℕ) → (place : ℕ)
+    → Query (Vec MetadataRow Z)
+query_of_texts_from object name =
+    row_query text.texts_from_text (λ place. (object < 2 ^ 63) × (place < 2 ^ 63))
+    (text_key_values object name) (All IsMetadataRow) ⊤
+    (λ place t found. AreFirstTexts (is_text_from object name place) t found.items)
+
+-- the first texts of an object's names above one are read
+abbrev pub query_of_texts_above : {Z : Type 0} → (object : ℕ) → (name : List ℕ)
+    → Query (Vec MetadataRow Z)
+query_of_texts_above object =
+    row_query text.texts_above_text (λ name. object < 2 ^ 63) (name_values object)
+    (All IsMetadataRow) ⊤
+    (λ name t found. AreFirstTexts (is_text_above object name) t found.items)
 
 -- ---- files
 

@@ -45,6 +45,18 @@ delete_metadata_text = codes "DELETE FROM metadata WHERE object = ?1"
 abbrev pub metadata_of_text : List ℕ
 metadata_of_text = codes "SELECT object, name, place, value FROM metadata WHERE object = ?1 ORDER BY name, place"
 
+-- the text that asks for the place of the last text of a name of an object
+abbrev pub last_text_text : List ℕ
+last_text_text = codes "SELECT place FROM metadata WHERE object = ?1 AND name = ?2 ORDER BY place DESC LIMIT 1"
+
+-- the text that asks for the next texts of a name of an object, from a place on
+abbrev pub texts_from_text : List ℕ
+texts_from_text = codes "SELECT object, name, place, value FROM metadata WHERE object = ?1 AND name = ?2 AND place >= ?3 ORDER BY name, place LIMIT 512"
+
+-- the text that asks for the first texts of an object's names above one
+abbrev pub texts_above_text : List ℕ
+texts_above_text = codes "SELECT object, name, place, value FROM metadata WHERE object = ?1 AND name > ?2 ORDER BY name, place LIMIT 512"
+
 -- the text that inserts the row of a new file
 abbrev pub insert_file_text : List ℕ
 insert_file_text = codes "INSERT INTO files (file, object, name, media, size, tag, deposited, behalf, by_reference, sha256) VALUES (?1, ?2, ?3, ?4, ?5, ?6, ?7, ?8, ?9, ?10)"

@@ -31,7 +31,9 @@ pub use columns::ColumnKind;
 pub use fault::fault_of;
 pub use files::{delete_file, delete_files, files_of, find_file, insert_file};
 pub use format::write_version;
-pub use metadata::{MetadataRow, delete_metadata, insert_metadata, metadata_of};
+pub use metadata::{
+    MetadataRow, delete_metadata, insert_metadata, last_text, metadata_of, texts_above, texts_from,
+};
 pub use numbers::LIMIT;
 pub use objects::{delete_object, find_object, insert_object, next_object, write_object};
 pub use owner::{

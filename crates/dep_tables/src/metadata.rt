@@ -1,17 +1,17 @@
 //! The rows of the objects' metadata.
 
-ghost use Rattle.std.specs.Prelude.{◌≡◌, ◌↔◌, IsTrue};
+ghost use Rattle.std.specs.Prelude.{◌≡◌, ◌<◌, ◌^◌, ◌↔◌, IsTrue};
 ghost use Rattle.sqlite.specs.Values.{bound};
-ghost use Rattle.dep_tables.specs.Rows.{IsStorableMetadata, metadata_values};
+ghost use Rattle.dep_tables.specs.Rows.{IsStorableMetadata, metadata_values, name_values, text_key_values};
 ghost use Rattle.dep_tables.specs.Edits.{LacksMetadataRow};
 ghost use Rattle.dep_tables.specs.Clauses.{Shows, Writes, Queries};
-ghost use Rattle.dep_tables.specs.Statements.{insertion_of_metadata, deletion_of_metadata, query_of_metadata};
+ghost use Rattle.dep_tables.specs.Statements.{insertion_of_metadata, deletion_of_metadata, query_of_metadata, query_of_last_text, query_of_texts_from, query_of_texts_above};
 
 use crate::calls::Statements;
 use crate::columns::ColumnKind::{self, Number};
 use crate::keyed::{ask_all_by_key, run_by_key};
 use crate::numbers::{LIMIT, number, number_at};
-use crate::reading::FromRow;
+use crate::reading::{FromRow, ask_all, ask_one};
 use crate::texts::{text_at, text_value};
 use dep_types::{StoreFault, Text};
 use sqlite::Row;
@@ -111,5 +111,87 @@ pub fn metadata_of<T: Statements>(
         alloc,
         "SELECT object, name, place, value FROM metadata WHERE object = ?1 ORDER BY name, place",
         object,
+    )
+}
+
+fn name_params(object: u64, name: &Text) -> [ValueRef<'_>; 2]
+    requires { object < 2 ^ 63 }
+    ensures { bound result ≡ name_values object name.now }
+{
+    [ValueRef::Int(number(object)), text_value(name)]
+}
+
+/// Returns the place of the last text of a name of an object, if it has one. A number of 2^63 or more is a
+/// fault of the store.
+pub fn last_text<T: Statements>(
+    tx: &mut T,
+    object: u64,
+    name: &Text,
+) -> Result<Option<u64>, StoreFault>
+    ensures does { Queries T.lenders T.state tx.old tx.new result (query_of_last_text object name.now) }
+{
+    if object >= LIMIT {
+        return Err(StoreFault::Store);
+    }
+    ask_one(
+        tx,
+        "SELECT place FROM metadata WHERE object = ?1 AND name = ?2 ORDER BY place DESC LIMIT 1",
+        &name_params(object, name),
+    )
+}
+
+fn text_key_params(object: u64, name: &Text, place: u64) -> [ValueRef<'_>; 3]
+    requires object { object < 2 ^ 63 }
+    requires place { place < 2 ^ 63 }
+    ensures { bound result ≡ text_key_values object name.now place }
+{
+    [
+        ValueRef::Int(number(object)),
+        text_value(name),
+        ValueRef::Int(number(place)),
+    ]
+}
+
+/// Returns at most 512 rows: the first of a name of an object, from a place on, by place. It is a fault of
+/// the store where one is not one that `insert_metadata` writes, and for a number of 2^63 or more.
+pub fn texts_from<T: Statements>(
+    tx: &mut T,
+    alloc: Global,
+    object: u64,
+    name: &Text,
+    place: u64,
+) -> Result<Vec<MetadataRow>, StoreFault>
+    ensures does { Queries T.lenders T.state tx.old tx.new result (query_of_texts_from object name.now place) }
+{
+    if object >= LIMIT || place >= LIMIT {
+        return Err(StoreFault::Store);
+    }
+    ask_all(
+        tx,
+        alloc,
+        "SELECT object, name, place, value FROM metadata WHERE object = ?1 AND name = ?2 AND place >= ?3 ORDER BY name, place LIMIT 512",
+        &text_key_params(object, name, place),
+    )
+}
+
+/// Returns at most 512 rows: the first of an object whose names are above this one, as bytes are, by name and
+/// place. It is a fault of the store where one is not one that `insert_metadata` writes, and for a number of
+/// 2^63 or more.
+pub fn texts_above<T: Statements>(
+    tx: &mut T,
+    alloc: Global,
+    object: u64,
+    name: &Text,
+) -> Result<Vec<MetadataRow>, StoreFault>
+    ensures does { Queries T.lenders T.state tx.old tx.new result (query_of_texts_above object name.now) }
+{
+    if object >= LIMIT {
+        return Err(StoreFault::Store);
+    }
+    ask_all(
+        tx,
+        alloc,
+        "SELECT object, name, place, value FROM metadata WHERE object = ?1 AND name > ?2 ORDER BY name, place LIMIT 512",
+        &name_params(object, name),
     )
 }

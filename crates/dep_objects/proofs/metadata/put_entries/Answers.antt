@@ -20,7 +20,7 @@ entries-preserved g c =
           let sees = c.in_ok-put_texts.ensures.does.ok clean (inv.0.inside before inside) was.ours in
           record {
             ours = sees.ours;
-            rows = one_more_name (tables_of old) (tables_of mid) (tables_of new) c.args.object c.args.have.now c.args.entries.now c.entries.entry-index c.entry-item.result c.count_of.result within c.entry-item.is c.count_of.ensures
+            rows = one_more_name (tables_of old) (tables_of mid) (tables_of new) c.args.object c.args.entries.now c.entries.entry-index c.entry-item.result within c.entry-item.is
                 was.rows sees.rows;
           },
     )

@@ -1,11 +1,10 @@
-use Rattle.std.proofs.Common.{take, map, IsTrue}
+use Rattle.std.proofs.Common.{take, IsTrue}
 use Rattle.sqlite.specs.State.{HasCleanDisk}
-use Rattle.dep_types.specs.MetadataEntries.{name_and_texts}
 use Rattle.dep_tables.proofs.Chains.{Stays}
 use Rattle.dep_tables.specs.Tables.{tables_of, IsOurs}
 use Rattle.dep_row_maps.specs.Owned.{put_each}
 use Rattle.dep_row_maps.specs.Clauses.{Sees}
-use Rattle.dep_objects.specs.Texts.{rows_beside}
+use Rattle.dep_objects.specs.Texts.{entry_rows}
 use Rattle.dep_objects.proofs.metadata.put_entries.Given as goal
 
 abbrev pub invariant-entries : goal.invariant-entries
@@ -13,4 +12,4 @@ invariant-entries g l =
     let old = g.T.Statements.state l.fn.tx in
     let now = g.T.Statements.state l.tx in
     Stays g.T.Statements.lenders g.T.Statements.state l.fn.tx l.tx
-    × (HasCleanDisk now → IsTrue old.in_transaction → IsOurs old → Sees now (record (tables_of old) { metadata = put_each (rows_beside l.fn.object l.fn.have (map name_and_texts (take l.entry-index l.entries))) (tables_of old).metadata }))
+    × (HasCleanDisk now → IsTrue old.in_transaction → IsOurs old → Sees now (record (tables_of old) { metadata = put_each (entry_rows l.fn.object (take l.entry-index l.entries)) (tables_of old).metadata }))

@@ -1,10 +1,5 @@
-use Rattle.std.proofs.Common.{ap, ◌∙◌, map}
-use Rattle.dep_types.specs.MetadataEntries.{name_and_texts}
-use Rattle.dep_tables.specs.Edits.{without_metadata_rows}
 use Rattle.dep_tables.proofs.Results.{ok_then}
 use Rattle.dep_tables.specs.Tables.{tables_of}
-use Rattle.dep_row_maps.specs.Owned.{put_each}
-use Rattle.dep_objects.specs.Texts.{rows_beside}
 use Rattle.dep_objects.proofs.Appending.{metadata_set}
 use Rattle.dep_row_maps.proofs.Changing.{tables_after, tables_by, tables_kept}
 use Rattle.dep_row_maps.proofs.Calling.{changes_failed}
@@ -12,15 +7,14 @@ use Rattle.dep_objects.proofs.metadata.set_metadata.Goals as goal
 
 pub returns : goal.returns
 returns g c =
-    let all = tables_after (tables_by c.in_ok-delete_metadata.ensures.does) c.put_entries-2.ensures.does in
+    let all = tables_after (tables_by c.in_ok-delete_metadata.ensures.does) c.put_entries.ensures.does in
     record {
       does = record {
         map = λ clean inside ours s are o there.
             let old = tables_of (g.T.Statements.state c.args.tx.now) in
-            let left = without_metadata_rows c.args.object old in
-            ok_then c.put_entries-2.result (all.ok clean inside ours)
-            (λ seen. metadata_set old (tables_of (g.T.Statements.state c.put_entries-2.new.tx)) s c.args.object o c.args.metadata.now (map name_and_texts c.entries.result.now) are ours.trees.ordered.1.1.1.0 there c.entries.ensures
-            (seen.rows ∙ ap (λ m. record left { metadata = put_each (rows_beside c.args.object m (map name_and_texts c.entries.result.now)) left.metadata }) c.new.ensures));
+            ok_then c.put_entries.result (all.ok clean inside ours)
+            (λ seen. metadata_set old (tables_of (g.T.Statements.state c.put_entries.new.tx)) s c.args.object o c.args.metadata.now c.entries.result.now are ours.trees.ordered.1.1.1.0 there c.entries.ensures
+            seen.rows);
         keeps = tables_kept all;
       };
     }
