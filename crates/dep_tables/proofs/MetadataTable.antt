@@ -21,16 +21,16 @@ use Rattle.sqlite_value.specs.Order.{value_cmp}
 use Rattle.sqlite_value.proofs.OrderLemmas.{value_cmp_total, then-Equal}
 use Rattle.sqlite_schema.specs.Rules.{agree}
 use Rattle.sqlite_rules.specs.Edit.{with_rowid}
-use Rattle.dep_tables.specs.Query.{equals, exceeds, reaches, no_limit, rising, passes_tests}
+use Rattle.dep_tables.specs.Query.{equals, reaches, no_limit, rising, passes_tests}
 use Rattle.dep_tables.specs.Rowids.{has_number, put_next, columns_from, InOrder, IsFirst}
 use Rattle.dep_tables.proofs.Values.{cast_int, cast_null}
-use Rattle.dep_tables.proofs.Tests.{equals_int, equals_text, holds_number, holds_text, holds_reaching, holds_above_text, passes_key, passes_two, passes_three}
+use Rattle.dep_tables.proofs.Tests.{equals_int, equals_text, holds_number, holds_text, holds_reaching, holds_reaching_text, passes_key, passes_two, passes_three}
 use Rattle.dep_tables.proofs.Unique.{IsKey}
 use Rattle.dep_tables.proofs.Written.{IsListed, Inserts, Deletes, inserts_next}
 use Rattle.dep_tables.proofs.Selected.{Asks, first_ones, first_only, selects_first, selects_page, selects_sorted}
 use Rattle.dep_tables.specs.Schema.{our_schema, metadata_table}
-use Rattle.dep_tables.specs.Texts.{insert_metadata_text, delete_metadata_text, metadata_of_text, last_text_text, texts_from_text, texts_above_text}
-use Rattle.dep_tables.specs.Rows.{metadata_values, name_values, text_key_values, shown_metadata, shown_number, is_text_of, is_text_from, is_text_above, has_metadata_key, by_name_and_place, by_falling_place}
+use Rattle.dep_tables.specs.Texts.{insert_metadata_text, delete_metadata_text, metadata_of_text, last_text_text, texts_from_text, texts_from_name_text}
+use Rattle.dep_tables.specs.Rows.{metadata_values, name_values, text_key_values, shown_metadata, shown_number, is_text_of, is_text_from, is_text_from_name, has_metadata_key, by_name_and_place, by_falling_place}
 use Rattle.dep_tables.specs.declared.metadata.MetadataRow.{MetadataRow}
 use Rattle.dep_tables.specs.Edits.{page_size, AreFirstTexts}
 use Rattle.dep_tables.specs.Tables.{tables_of, IsOurs, Leads}
@@ -129,21 +129,21 @@ tests_from object name place row =
     let params = text_key_values object name place in
     passes_three params row (equals (col 1 1) (col 0 0)) (equals (col 1 2) (col 0 1)) (reaches (col 1 3) (col 0 2)) _ _ _ (holds_number params 0 object 1 row refl) (holds_text params 1 name 2 row refl) (holds_reaching params 2 place 3 row refl)
 
-abbrev above_name : List Term
-above_name = equals (col 1 1) (col 0 0) ∷ exceeds (col 1 2) (col 0 1) ∷ []
+abbrev from_name : List Term
+from_name = equals (col 1 1) (col 0 0) ∷ reaches (col 1 2) (col 0 1) ∷ []
 
-pub tests_above : (object : ℕ) (name : List ℕ) (row : Row) → passes_tests (name_values object name) above_name row ≡ is_text_above object name row
-tests_above object name row =
+pub tests_from_name : (object : ℕ) (name : List ℕ) (row : Row) → passes_tests (name_values object name) from_name row ≡ is_text_from_name object name row
+tests_from_name object name row =
     let params = name_values object name in
-    passes_two params row (equals (col 1 1) (col 0 0)) (exceeds (col 1 2) (col 0 1)) _ _ (holds_number params 0 object 1 row refl) (holds_above_text params 1 name 2 row refl)
+    passes_two params row (equals (col 1 1) (col 0 0)) (reaches (col 1 2) (col 0 1)) _ _ (holds_number params 0 object 1 row refl) (holds_reaching_text params 1 name 2 row refl)
 
 pub from_is : Asks our_schema texts_from_text 3 from_place values order (first_ones page_size)
 unfolding understood everything
 from_is = record { names = _; is = refl; unlisted = refl; plain = (refl, refl) }
 
-pub above_is : Asks our_schema texts_above_text 3 above_name values order (first_ones page_size)
+pub from_name_is : Asks our_schema texts_from_name_text 3 from_name values order (first_ones page_size)
 unfolding understood everything
-above_is = record { names = _; is = refl; unlisted = refl; plain = (refl, refl) }
+from_name_is = record { names = _; is = refl; unlisted = refl; plain = (refl, refl) }
 
 pub pages_texts : (old new : State) (sql : List ℕ) (params : Row) (tests : List Term) → Asks our_schema sql 3 tests values order (first_ones page_size) → (p : Row → Bool) → ((row : Row) → passes_tests params tests row ≡ p row) → (found : List MetadataRow) → IsOurs old
     → (rows : List Row) × Shown sql params old new rows × (map metadata_values found ≡ map (columns_from 0 4) rows) → AreFirstTexts p (tables_of old) found

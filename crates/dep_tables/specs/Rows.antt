@@ -2,7 +2,7 @@
 -- Is..Row says that a row, as a query shows it, has the columns of one that was given.
 use Rattle.std.specs.Prelude.{◌≡◌, ◌⊎◌, ℕ, ◌<◌, ◌^◌, pos, Bool, if◌then◌else◌, ◌&&◌, List, [], ◌∷◌, length, get_or, IsUtf8}
 use Rattle.std.specs.declared.cmp.Ordering.{Ordering}
-use Rattle.std.specs.Ordering.{ordering_then, is_eq, is_gt}
+use Rattle.std.specs.Ordering.{ordering_then, is_eq, is_ge}
 use Rattle.sqlite.specs.declared.types.Value.{Value}
 use Rattle.sqlite.specs.declared.types.Value.TheVariants.{Null, Int, Text, Blob}
 use Rattle.sqlite.specs.Order.{Row, column}
@@ -178,10 +178,10 @@ abbrev pub is_text_from : (object : ℕ) → (name : List ℕ) → (place : ℕ)
 is_text_from object name place stored =
     is_text_of object name stored && reaches_number 3 place stored
 
--- a text of the object, of a name above this one
-abbrev pub is_text_above : (object : ℕ) → (name : List ℕ) → Row → Bool
-is_text_above object name stored =
-    has_number 1 object stored && is_gt (value_cmp (column stored 2) (Text name))
+-- a text of the object, of this name or one above it
+abbrev pub is_text_from_name : (object : ℕ) → (name : List ℕ) → Row → Bool
+is_text_from_name object name stored =
+    has_number 1 object stored && is_ge (value_cmp (column stored 2) (Text name))
 
 -- the stored row has this one's object, name and place
 abbrev pub has_metadata_key : MetadataRow → Row → Bool

@@ -13,7 +13,7 @@ use Rattle.dep_tables.specs.declared.uploads.UploadColumns.{UploadColumns}
 use Rattle.dep_tables.specs.declared.owner.BlockOwner.{BlockOwner}
 use Rattle.dep_tables.specs.declared.owner.BlockKey.{BlockKey}
 use Rattle.dep_tables.specs.declared.owner.BlockPlace.{BlockPlace}
-use Rattle.dep_tables.specs.Rows.{IsStorableState, state_values, IsStateRow, IsStorableObject, object_values, IsObjectRow, IsNumberRow, IsStorableMetadata, metadata_values, name_values, text_key_values, is_text_from, is_text_above, IsMetadataRow, IsStorableFile, file_values, IsFileRow, IsStorableUpload, upload_values, IsUploadRow, IsLeftRow, IsStorableSegment, segment_values, IsSegmentRow, IsStorableOwner, owner_values, IsStorablePart, part_values, IsStorableKey, key_values, block_values, move_values, move_run_values, IsBytesRow, IsPlaceRow, sha512_values, IsSha512Row}
+use Rattle.dep_tables.specs.Rows.{IsStorableState, state_values, IsStateRow, IsStorableObject, object_values, IsObjectRow, IsNumberRow, IsStorableMetadata, metadata_values, name_values, text_key_values, is_text_from, is_text_from_name, IsMetadataRow, IsStorableFile, file_values, IsFileRow, IsStorableUpload, upload_values, IsUploadRow, IsLeftRow, IsStorableSegment, segment_values, IsSegmentRow, IsStorableOwner, owner_values, IsStorablePart, part_values, IsStorableKey, key_values, block_values, move_values, move_run_values, IsBytesRow, IsPlaceRow, sha512_values, IsSha512Row}
 use Rattle.dep_tables.specs.Edits.{with_our_version, with_state_row, HasStateRow, with_new_object_row, with_object_row, without_object_row, IsObjectRowAt, IsObjectAfter, with_new_metadata_row, without_metadata_rows, AreMetadataRowsOf, IsLastText, AreFirstTexts, with_new_file_row, without_file_row, without_file_rows, IsFileRowAt, AreFileRowsOf, with_new_upload_row, with_upload_row, without_upload_row, IsUploadRowAt, IsUploadAfter, IsLeftBefore, with_new_segment_row, without_segment_rows, AreSegmentRowsOf, with_timed_out, has_timed_out, with_new_block, without_blocks_of, without_run, with_blocks_moved, with_run_moved, AreBytesAt, IsFirstBlock, IsLastPlace, with_new_sha512, without_sha512, IsSha512Of}
 use Rattle.dep_tables.specs.Tables.{Tables}
 use Rattle.dep_tables.specs.Clauses.{Statement, Query, AtMostOne, JustOne}
@@ -134,12 +134,12 @@ query_of_texts_from object name =
     (λ place t found. AreFirstTexts (is_text_from object name place) t found.items)
 
 -- the first texts of an object's names above one are read
-abbrev pub query_of_texts_above : {Z : Type 0} → (object : ℕ) → (name : List ℕ)
+abbrev pub query_of_texts_from_name : {Z : Type 0} → (object : ℕ) → (name : List ℕ)
     → Query (Vec MetadataRow Z)
-query_of_texts_above object =
-    row_query text.texts_above_text (λ name. object < 2 ^ 63) (name_values object)
+query_of_texts_from_name object =
+    row_query text.texts_from_name_text (λ name. object < 2 ^ 63) (name_values object)
     (All IsMetadataRow) ⊤
-    (λ name t found. AreFirstTexts (is_text_above object name) t found.items)
+    (λ name t found. AreFirstTexts (is_text_from_name object name) t found.items)
 
 -- ---- files
 

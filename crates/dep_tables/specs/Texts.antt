@@ -54,8 +54,8 @@ abbrev pub texts_from_text : List ℕ
 texts_from_text = codes "SELECT object, name, place, value FROM metadata WHERE object = ?1 AND name = ?2 AND place >= ?3 ORDER BY name, place LIMIT 512"
 
 -- the text that asks for the first texts of an object's names above one
-abbrev pub texts_above_text : List ℕ
-texts_above_text = codes "SELECT object, name, place, value FROM metadata WHERE object = ?1 AND name > ?2 ORDER BY name, place LIMIT 512"
+abbrev pub texts_from_name_text : List ℕ
+texts_from_name_text = codes "SELECT object, name, place, value FROM metadata WHERE object = ?1 AND name >= ?2 ORDER BY name, place LIMIT 512"
 
 -- the text that inserts the row of a new file
 abbrev pub insert_file_text : List ℕ

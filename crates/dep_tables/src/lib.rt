@@ -32,7 +32,8 @@ pub use fault::fault_of;
 pub use files::{delete_file, delete_files, files_of, find_file, insert_file};
 pub use format::write_version;
 pub use metadata::{
-    MetadataRow, delete_metadata, insert_metadata, last_text, metadata_of, texts_above, texts_from,
+    MetadataRow, delete_metadata, insert_metadata, last_text, metadata_of, texts_from,
+    texts_from_name,
 };
 pub use numbers::LIMIT;
 pub use objects::{delete_object, find_object, insert_object, next_object, write_object};

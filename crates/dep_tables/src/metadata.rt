@@ -5,7 +5,7 @@ ghost use Rattle.sqlite.specs.Values.{bound};
 ghost use Rattle.dep_tables.specs.Rows.{IsStorableMetadata, metadata_values, name_values, text_key_values};
 ghost use Rattle.dep_tables.specs.Edits.{LacksMetadataRow};
 ghost use Rattle.dep_tables.specs.Clauses.{Shows, Writes, Queries};
-ghost use Rattle.dep_tables.specs.Statements.{insertion_of_metadata, deletion_of_metadata, query_of_metadata, query_of_last_text, query_of_texts_from, query_of_texts_above};
+ghost use Rattle.dep_tables.specs.Statements.{insertion_of_metadata, deletion_of_metadata, query_of_metadata, query_of_last_text, query_of_texts_from, query_of_texts_from_name};
 
 use crate::calls::Statements;
 use crate::columns::ColumnKind::{self, Number};
@@ -174,16 +174,15 @@ pub fn texts_from<T: Statements>(
     )
 }
 
-/// Returns at most 512 rows: the first of an object whose names are above this one, as bytes are, by name and
-/// place. It is a fault of the store where one is not one that `insert_metadata` writes, and for a number of
+/// Returns at most 512 rows: the first of an object from a name on, by name, as bytes are, and place. It is a fault of the store where one is not one that `insert_metadata` writes, and for a number of
 /// 2^63 or more.
-pub fn texts_above<T: Statements>(
+pub fn texts_from_name<T: Statements>(
     tx: &mut T,
     alloc: Global,
     object: u64,
     name: &Text,
 ) -> Result<Vec<MetadataRow>, StoreFault>
-    ensures does { Queries T.lenders T.state tx.old tx.new result (query_of_texts_above object name.now) }
+    ensures does { Queries T.lenders T.state tx.old tx.new result (query_of_texts_from_name object name.now) }
 {
     if object >= LIMIT {
         return Err(StoreFault::Store);
@@ -191,7 +190,7 @@ pub fn texts_above<T: Statements>(
     ask_all(
         tx,
         alloc,
-        "SELECT object, name, place, value FROM metadata WHERE object = ?1 AND name > ?2 ORDER BY name, place LIMIT 512",
+        "SELECT object, name, place, value FROM metadata WHERE object = ?1 AND name >= ?2 ORDER BY name, place LIMIT 512",
         &name_params(object, name),
     )
 }
