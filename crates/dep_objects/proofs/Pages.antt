@@ -20,7 +20,8 @@ use Rattle.sqlite_trees.proofs.ListLemmas.{all-append, filter_none}
 use Rattle.dep_types.specs.State.{Texts}
 use Rattle.dep_tables.specs.Edits.{page_size}
 use Rattle.dep_tables.specs.Rowids.{has_number}
-use Rattle.dep_tables.specs.Rows.{by_name_and_place, is_text_from, metadata_values, shown_metadata}
+use Rattle.dep_tables.specs.Rows.{by_name_and_place, is_text_from, is_text_from_name, metadata_values, shown_metadata}
+use Rattle.dep_tables.proofs.Tests.{behind_name}
 use Rattle.dep_tables.specs.declared.metadata.MetadataRow.{MetadataRow}
 use Rattle.dep_row_maps.specs.Stored.{grouped, is_row_of, listed, metadata_rows, pair_seen, text_rows, text_values, with_added_text}
 use Rattle.dep_row_maps.specs.ReadLaws.{pair_of}
@@ -82,6 +83,10 @@ tests_from n key r = go (has_number 1 n r)
     go : (b : Bool) → ((b && is_eq (value_cmp (column r 2) (Text key.name))) && is_ge (value_cmp (column r 3) (Int (pos key.place)))) ≡ (b && seen_from key (shown_metadata r))
     go true = refl
     go false = refl
+
+-- the names above the key's are those from the first one behind it on
+pub tests_behind : (n : ℕ) (key : TextKey) (behind : List ℕ) → behind ≡ key.name ++ 0 ∷ [] → (r : Row) → is_text_from_name n behind r ≡ (is_row_of n r && seen_above key (shown_metadata r))
+tests_behind n key behind is r = ap (λ b. has_number 1 n r && b) (ap (λ t. is_ge (value_cmp (column r 2) (Text t))) is ∙ behind_name (column r 2) key.name)
 
 module _ (key : TextKey) where
   before_down : (a b : Row) → Below a b → is_before key b ≡ true → is_before key a ≡ true

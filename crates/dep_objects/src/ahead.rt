@@ -1,6 +1,6 @@
 //! The texts of an object that are read before a request needs them, some at a time.
 
-ghost use Rattle.std.specs.Prelude.{◌≡◌, ◌-◌, false, length, option_map, IfOk, IfSome};
+ghost use Rattle.std.specs.Prelude.{◌≡◌, ◌-◌, false, [], ◌∷◌, ◌++◌, length, option_map, IfOk, IfSome};
 ghost use Rattle.std.specs.List.{slice_get};
 ghost use Rattle.dep_types.specs.State.{State};
 ghost use Rattle.dep_types.specs.Sound.{IsSound};
@@ -12,9 +12,9 @@ ghost use Rattle.dep_objects.specs.Ahead.{AreRead, IsPage, IsRead, KeepsRead, ke
 
 use crate::gathering::{NamedTexts, close, gather_rows};
 use crate::objects::find_object;
-use dep_tables::{LIMIT, MetadataRow, Statements, texts_above, texts_from};
+use dep_tables::{LIMIT, MetadataRow, Statements, texts_from, texts_from_name};
 use dep_types::{Metadata, ObjectRow, StoreFault, Text};
-use std::alloc::Global;
+use std::alloc::{AllocError, Global};
 
 /// So many requests for texts of other objects may be held back, one after another, while those of one object are read:
 /// as many as there are connections, so that the request for which they are read has had its turn.
@@ -107,6 +107,14 @@ impl TextsAhead {
         }
     }
 
+    /// Forgets what was read, as no request waits for it.
+    pub fn forget(&mut self)
+        ensures { (s : State) → AreRead s self.new }
+    {
+        self.read = None;
+        self.held = 0;
+    }
+
     fn put(&mut self, read: ReadTexts)
         ensures { (s : State) → IsRead s read → AreRead s self.new }
     {
@@ -151,6 +159,16 @@ fn key_behind(alloc: Global, rows: &[MetadataRow]) -> Result<Option<TextKey>, St
     }))
 }
 
+// The first name behind a name: with a zero byte at its end. SQLite walks none of the name's texts then, of which a million may
+// stand before those of the next one.
+fn name_behind(alloc: Global, name: &Text) -> Result<Text, AllocError>
+    ensures { IfOk result (λ behind. behind ≡ name.now ++ 0 ∷ []) }
+{
+    let mut behind = String::from_str(alloc, name.as_str())?;
+    behind.push_str("\0")?;
+    Ok(Text::new(behind))
+}
+
 // Reads the next page of an object's texts, from this key on: those of its name, and where none of it is left, those of
 // the names above it.
 fn next_page<T: Statements>(
@@ -167,7 +185,8 @@ fn next_page<T: Statements>(
         let next = key_behind(alloc, rows.as_slice())?;
         return Ok(Page { rows, next });
     }
-    let rows = texts_above(tx, alloc, object, &from.name)?;
+    let behind = name_behind(alloc, &from.name)?;
+    let rows = texts_from_name(tx, alloc, object, &behind)?;
     if rows.len() < PAGE_SIZE {
         return Ok(Page { rows, next: None });
     }

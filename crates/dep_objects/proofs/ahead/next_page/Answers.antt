@@ -4,14 +4,14 @@ use Rattle.std.proofs.lemmas.Bool.Decides.{nat_tests}
 use Rattle.std.specs.List.{slice_get}
 use Rattle.sqlite.specs.Effect.{Database}
 use Rattle.dep_tables.proofs.Chains.{clean_before, reads_ok, reads_then, still_ours}
-use Rattle.dep_tables.specs.Rows.{is_text_above, is_text_from, metadata_values}
+use Rattle.dep_tables.specs.Rows.{is_text_from, is_text_from_name, metadata_values}
 use Rattle.dep_tables.specs.Tables.{Tables, tables_in, tables_of}
 use Rattle.dep_tables.specs.declared.metadata.MetadataRow.{MetadataRow}
 use Rattle.dep_row_maps.specs.TablesAre.{TablesAre, metadata_at}
 use Rattle.dep_row_maps.proofs.Calling.{queried_ok}
 use Rattle.dep_row_maps.proofs.PickedTexts.{texts_page_read}
 use Rattle.dep_objects.specs.Ahead.{key_after}
-use Rattle.dep_objects.proofs.Pages.{above_page, last_page, named_page, seen_above, seen_from, tests_from}
+use Rattle.dep_objects.proofs.Pages.{above_page, last_page, named_page, seen_above, seen_from, tests_behind, tests_from}
 use Rattle.dep_objects.proofs.ahead.next_page.Goals as goal
 
 is_none : (rows : List MetadataRow) → length rows ≡ 0 → rows ≡ []
@@ -48,7 +48,7 @@ returns-then-len-lt-PAGE_SIZE g c =
             let are_still = subst (λ (t : Tables). TablesAre t s) (sym (ap (λ (db : Database). tables_in db.trees) same.0.now_is)) are in
             last_page n (metadata_at s.objects n) from rows
             (sym (ap (map metadata_values) none) ∙ texts_page_read (tables_of old) s are n (is_text_from n from.name from.place) (seen_from from) (tests_from n from) c.in_ok-rows.rows.items (named.ok before ours))
-            (texts_page_read (tables_of mid) s are_still n (is_text_above n from.name) (seen_above from) (λ r. refl) rows (above.ok clean (still_ours old mid same ours)))
+            (texts_page_read (tables_of mid) s are_still n (is_text_from_name n c.in_ok-behind.behind) (seen_above from) (tests_behind n from c.in_ok-behind.behind c.in_ok-behind.ensures) rows (above.ok clean (still_ours old mid same ours)))
             (omega (arith, c.in_ok-rows-2.rows.ok.0, c.len.ensures, c.if-len-lt-PAGE_SIZE.true));
         keeps = reads_ok (reads_then named.keeps above.keeps);
       };
@@ -72,7 +72,7 @@ returns g c =
             let are_still = subst (λ (t : Tables). TablesAre t s) (sym (ap (λ (db : Database). tables_in db.trees) same.0.now_is)) are in
             above_page n (metadata_at s.objects n) from rows
             (sym (ap (map metadata_values) none) ∙ texts_page_read (tables_of old) s are n (is_text_from n from.name from.place) (seen_from from) (tests_from n from) c.in_ok-rows.rows.items (named.ok before ours))
-            (texts_page_read (tables_of mid) s are_still n (is_text_above n from.name) (seen_above from) (λ r. refl) rows (above.ok clean (still_ours old mid same ours)))
+            (texts_page_read (tables_of mid) s are_still n (is_text_from_name n c.in_ok-behind.behind) (seen_above from) (tests_behind n from c.in_ok-behind.behind c.in_ok-behind.ensures) rows (above.ok clean (still_ours old mid same ours)))
             (omega (arith, c.in_ok-rows-2.rows.ok.0, c.len.ensures, c.if-len-lt-PAGE_SIZE.false)) c.in_ok-next-2.next (c.in_ok-next-2.ensures ∙ ap (λ rs. option_map key_after (slice_get rs (length rs - 1))) c.as_slice-2.ensures.value);
         keeps = reads_ok (reads_then named.keeps above.keeps);
       };
