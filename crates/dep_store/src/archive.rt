@@ -121,8 +121,8 @@ impl<S: Alter> Archive for HashingStore<S> {
         self.store.is_open()
     }
 
-    /// Hashes a part of what the request that waits needs, or, where none does, of an upload that one may name later, unless
-    /// the log is to be copied first.
+    /// Does a part of what the request that waits needs, or, where none does, hashes a part of an upload that one may name later,
+    /// and forgets what texts were read, unless the log is to be copied first.
     fn work_ahead(&mut self, service: &Service, next: Option<&Operation<'_>>) -> bool
         ensures asked { Runs (WorkedAhead result)
             (call_log_of S.Store self.old) (call_log_of S.Store self.new) }
@@ -148,6 +148,7 @@ impl<S: Alter> Archive for HashingStore<S> {
                 .prepare(&mut self.ahead, service.config(), operation);
             return hashed.unwrap_or(false);
         }
+        self.ahead.texts.forget();
         if !self.is_due {
             return false;
         }

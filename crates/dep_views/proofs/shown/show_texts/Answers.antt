@@ -9,8 +9,8 @@ use Rattle.dep_views.proofs.shown.show_texts.Goals as goal
 pub returns-in-Some : goal.returns-in-Some
 returns-in-Some g c = record {
   does = shown_at_once _ (λ s sound told.
-  some_shown (described_object c.args.row.object) (λ (d : DescribedObject). shown.Metadata d.row d.metadata) shown.Nothing (finmap.get s.objects c.args.row.object) (record { row = c.args.row; metadata = c.in-Some.metadata })
-  (c.in-Some.ensures.taken s sound told.1 told.0));
+      some_shown (described_object c.args.row.object) (λ (d : DescribedObject). shown.Metadata d.row d.metadata) shown.Nothing (finmap.get s.objects c.args.row.object) (record { row = c.args.row; metadata = c.in-Some.metadata })
+      (c.in-Some.ensures.taken s sound told.1 told.0));
   texts = c.take.ensures.left;
 }
 
