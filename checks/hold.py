@@ -26,8 +26,8 @@ from host_waits import MOST, SEGMENT_SIZE, Other, slowness, upload
 
 PATIENCE, CLIENTS, IDLE = 900, 10, 8
 CROWD, CROWD_SECONDS = 900, 5
-# What a text takes at most to be kept, to be deleted, to be shown, and to be shown and hashed; and what a reference takes to be read.
-EACH = {"kept": 20, "deleted": 12, "shown": 2, "hashed": 3, "read": 7}
+# What a text takes at most to be kept and to be deleted, and a reference to be read.
+EACH = {"kept": 20, "deleted": 12, "read": 7}
 READ = "import sys, urllib.request\nwith urllib.request.urlopen(sys.argv[1]) as it:\n    while it.read(1 << 20): pass"
 # Asks for a path over so many connections, and reads what comes until the time is over.
 READ_BY_MANY = """
@@ -110,9 +110,9 @@ class Acts:
         path = f"{self.remade.rpartition('/')[0]}" if is_set else self.remade
         self.ask(204, method, path, *((b"x", as_file("a")) if method == "PUT" else ()))
 
-    def read_at_once(self):
+    def read_at_once(self, path):
         """By programs of their own, since threads of this one would hold up the other client."""
-        readers = [subprocess.Popen([sys.executable, "-c", READ, self.host.base + self.file]) for _ in range(CLIENTS)]
+        readers = [subprocess.Popen([sys.executable, "-c", READ, self.host.base + path]) for _ in range(CLIENTS)]
         for it in readers:
             it.wait()
 
@@ -166,7 +166,7 @@ class Acts:
         yield "the same again (412)", 0, sent, lambda: self.refer(412, digest=f"SHA-256={64 * '0'}")
         yield f"by reference {size}", self.size, sent, kept
         yield f"GET of {size}", 0, rested, lambda: self.ask(200, "GET", self.file)
-        yield f"{CLIENTS} GETs of {size} at once", 0, rested, self.read_at_once
+        yield f"{CLIENTS} GETs of {size} at once", 0, rested, lambda: self.read_at_once(self.file)
         yield f"GET of {size} that isn't read", 0, rested, self.leave_unread
         yield f"{CROWD} clients that read {size}", 0, rested, self.read_by_many
         yield f"DELETE of its object, {size}", self.size, kept, lambda: self.ask(204, "DELETE", self.file.partition("/files")[0])
@@ -183,10 +183,12 @@ class Acts:
         yield "HEAD of its object", 0, None, described, lambda: shown(200, "HEAD", "")
         for it in ("bagit.txt", "manifest-sha512.txt"):
             yield f"{it} of its object", 0, None, described, lambda it=it: shown(200, "GET", f"/bag/{it}")
-        for method, each in (("HEAD", None), ("GET", "hashed")):
-            yield (f"{method} of its tagmanifest-sha256.txt", texts, each, described,
+        for method in ("HEAD", "GET"):
+            yield (f"{method} of its tagmanifest-sha256.txt", 0, None, described,
                    lambda method=method: shown(200, method, "/bag/tagmanifest-sha256.txt"))
-        yield "GET of the metadata", texts, "shown", described, lambda: shown(200, "GET", "/metadata")
+        yield "GET of the metadata", 0, None, described, lambda: shown(200, "GET", "/metadata")
+        yield f"{CLIENTS} GETs of it at once", 0, None, described, lambda: self.read_at_once(f"{self.described}/metadata")
+        yield "one text more", 0, None, described, lambda: self.ask(200, "POST", self.described, '{"dc:subject":""}', METADATA)
         yield "DELETE of its object", texts, "deleted", described, lambda: shown(204, "DELETE", "")
         yield f"{references:,} references of nothing", references, "read", None, self.refer_to_nothing
         yield f"an object of {files:,} files, one by one", 0, None, None, filled

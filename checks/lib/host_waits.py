@@ -41,6 +41,8 @@ def segments():
 
 # ---- waits ----
 
+METADATA = {"Content-Disposition": "attachment; metadata=true", **JSON}
+
 # So many milliseconds may another client wait at most. One that is seldom longer is measured up to TRIES times.
 MOST, TRIES = 100, 5
 # An idle machine sums up so many squares in so many seconds. Where one takes longer, as beside the other checks, others may wait
@@ -166,7 +168,7 @@ def hashed_in_turn(folder, path):
 
 
 def waits():
-    """What is refused without a look at an upload's bytes, or once they were hashed, and what shows none of an object's many texts,
+    """What is refused without a look at an upload's bytes, or once they were hashed, and what reads or adds to an object's many texts,
     holds nobody up, nor does the hashing that a deposit has to wait for. What a host had time to hash isn't hashed anew, also behind
     a restart, of more than a few uploads."""
     with tempfile.TemporaryDirectory() as folder:
@@ -174,7 +176,7 @@ def waits():
             path = host.path_of(upload(client, os.urandom(SIZE), SEGMENT_SIZE))
             small = [host.path_of(upload(client, os.urandom(SMALL_SIZE), SMALL_SIZE)) for _ in range(SMALL)]
             texts = json.dumps({"dc:subject": TEXTS * [""]})
-            reply, _ = client.ask(201, "POST", "/service", texts, {"Content-Disposition": "attachment; metadata=true", **JSON})
+            reply, _ = client.ask(201, "POST", "/service", texts, METADATA)
             described = host.path_of(reply.headers["Location"])
         # What was hashed ahead of a deposit is forgotten here.
         with Host(folder) as host:
@@ -186,6 +188,9 @@ def waits():
                      "the bagit.txt of many texts": (200, "GET", f"{described}/bag/bagit.txt"),
                      "the manifest of many texts": (200, "GET", f"{described}/bag/manifest-sha512.txt"),
                      "a HEAD of their tag manifest": (200, "HEAD", f"{described}/bag/tagmanifest-sha256.txt"),
+                     "a GET of their tag manifest": (200, "GET", f"{described}/bag/tagmanifest-sha256.txt"),
+                     "a GET of many texts": (200, "GET", f"{described}/metadata"),
+                     "one text more": (200, "POST", described, '{"dc:subject":""}', METADATA),
                      "references of nothing": (404, "POST", "/service", *by_reference(nothing))}
             told = [is_short(what, lambda: waited(host, *request)) for what, request in asked.items()]
         told += [is_short(f"the digests of {SIZE // MIB} MiB behind a restart", lambda: waited_anew(folder, [path])),

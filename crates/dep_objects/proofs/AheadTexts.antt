@@ -11,9 +11,9 @@ use Rattle.dep_row_maps.specs.Stored.{grouped, listed, metadata_rows, pair_seen,
 use Rattle.dep_row_maps.specs.TablesAre.{metadata_at}
 use Rattle.dep_row_maps.specs.ReadLaws.{pair_of}
 use Rattle.dep_objects.specs.Objects.{HasRow, IsDescribed}
-use Rattle.dep_objects.specs.Ahead.{AreFirst, IsPage, IsRead, rows_before}
+use Rattle.dep_objects.specs.Ahead.{AreTextsSoFar, IsPage, AreTextsOf, rows_before}
 use Rattle.dep_objects.specs.Texts.{closed}
-use Rattle.dep_objects.specs.declared.ahead.Page.{Page}
+use Rattle.dep_objects.specs.declared.ahead.TextsPage.{TextsPage}
 use Rattle.dep_objects.specs.declared.ahead.ReadTexts.{ReadTexts}
 use Rattle.dep_objects.proofs.Pages.{page_gathered}
 use Rattle.dep_objects.proofs.Puts.{described}
@@ -28,7 +28,7 @@ module _ (s : State) (row : ObjectRow) (has : HasRow s row) where
       go (Some o) is e = let same : row ≡ object_row row.object o = cc in (o, (is, same))
 
 -- all of its texts
-pub whole_described : (s : State) (row : ObjectRow) (read : ReadTexts) → IsSound s → IsRead s read → HasRow s row → read.object ≡ row.object → read.tag ≡ row.object_tag → read.is_whole ≡ true
+pub whole_described : (s : State) (row : ObjectRow) (read : ReadTexts) → IsSound s → AreTextsOf s read → HasRow s row → read.object ≡ row.object → read.tag ≡ row.object_tag → read.is_whole ≡ true
     → IsDescribed s row.object (record { row = row; metadata = read.metadata })
 whole_described s row read sound are has same tag whole =
     let its = its_object s row has in
@@ -39,7 +39,7 @@ whole_described s row read sound are has same tag whole =
     (texts ∙ ap (λ m. grouped (listed m)) (sym (ap (λ x. option_map_or (λ (y : Object). y.metadata) x finmap.empty) its.1.0)))
 
 -- what the texts come to with those of a page
-pub with_texts_of : (s : State) (read : ReadTexts) (page : Page) (o : Object) → finmap.get s.objects read.object ≡ Some o → AreFirst o.metadata read → read.is_whole ≡ false
+pub with_texts_of : (s : State) (read : ReadTexts) (page : TextsPage) (o : Object) → finmap.get s.objects read.object ≡ Some o → AreTextsSoFar o.metadata read → read.is_whole ≡ false
     → IsPage (metadata_rows read.object (metadata_at s.objects read.object)) read.next page → (kept : Texts) → kept ≡ fold with_added_text (closed read.metadata read.last) (each pair_of page.rows.items)
     → kept ≡ grouped (each pair_seen (rows_before page.next (metadata_rows read.object o.metadata)))
 with_texts_of s read page o there first part page_is kept is =

@@ -8,7 +8,7 @@ use Rattle.dep_tables.specs.Rows.{by_name_and_place, metadata_values}
 use Rattle.dep_tables.specs.declared.metadata.MetadataRow.{MetadataRow}
 use Rattle.dep_row_maps.specs.Stored.{grouped, listed, metadata_rows, pair_seen, text_values}
 use Rattle.dep_objects.specs.Texts.{closed}
-use Rattle.dep_objects.specs.declared.ahead.Page.{Page}
+use Rattle.dep_objects.specs.declared.ahead.TextsPage.{TextsPage}
 use Rattle.dep_objects.specs.declared.ahead.ReadTexts.{ReadTexts}
 use Rattle.dep_objects.specs.declared.ahead.TextKey.{TextKey}
 use Rattle.dep_objects.specs.declared.ahead.TextsAhead.{TextsAhead}
@@ -27,25 +27,26 @@ abbrev pub key_after : MetadataRow → TextKey
 key_after row = record { name = row.name; place = row.place + 1 }
 
 -- of these rows the page has all from a key on, up to the next one
-abbrev pub IsPage : List Row → TextKey → Page → Type 0
+abbrev pub IsPage : List Row → TextKey → TextsPage → Type 0
 IsPage all from page =
     rows_before page.next all ≡ rows_before (Some from) all ++ each metadata_values page.rows.items
 
 -- of these texts of an object they are the ones before its next key, or all of them
-pub record AreFirst (m : Texts) (read : ReadTexts) : Type 0 where
+pub record AreTextsSoFar (m : Texts) (read : ReadTexts) : Type 0 where
   pub part : read.is_whole ≡ false → closed read.metadata read.last
       ≡ grouped (each pair_seen (rows_before (Some read.next) (metadata_rows read.object m)))
   pub whole : read.is_whole ≡ true → read.metadata ≡ grouped (listed m)
 
 -- its tag was given, and while the object has it they are its texts
-pub record IsRead (s : State) (read : ReadTexts) : Type 0 where
+pub record AreTextsOf (s : State) (read : ReadTexts) : Type 0 where
   pub given : read.tag < s.next.change
   pub texts : (o : Object) → map.get s.objects read.object ≡ Some o → o.tag ≡ read.tag
-      → AreFirst o.metadata read
+      → AreTextsSoFar o.metadata read
 
-abbrev pub AreRead : State → TextsAhead → Type 0
-AreRead s ahead = IfSome ahead.read (IsRead s)
+-- of each state the texts that were read are its own
+abbrev pub AreReadAhead : State → TextsAhead → Type 0
+AreReadAhead s ahead = IfSome ahead.read (AreTextsOf s)
 
 -- what a call leaves of them that reads more
 abbrev pub KeepsRead : State → (before now : TextsAhead) → Type 0
-KeepsRead s before now = AreRead s before → AreRead s now
+KeepsRead s before now = AreReadAhead s before → AreReadAhead s now

@@ -8,7 +8,7 @@ ghost use Rattle.dep_row_maps.specs.Stored.{metadata_rows};
 ghost use Rattle.dep_row_maps.specs.TablesAre.{metadata_at};
 ghost use Rattle.dep_row_maps.specs.Clauses.{ReadsMaps, ReadsOver};
 ghost use Rattle.dep_objects.specs.Objects.{HasRow, IsDescribed};
-ghost use Rattle.dep_objects.specs.Ahead.{AreRead, IsPage, IsRead, KeepsRead, key_after};
+ghost use Rattle.dep_objects.specs.Ahead.{AreReadAhead, IsPage, AreTextsOf, KeepsRead, key_after};
 
 use crate::gathering::{NamedTexts, close, gather_rows};
 use crate::objects::find_object;
@@ -32,7 +32,7 @@ pub(crate) struct TextKey {
 
 /// Rows of texts that follow one another, and where those begin that are left, if any is.
 #[derive(Drop)]
-pub(crate) struct Page {
+pub(crate) struct TextsPage {
     rows: Vec<MetadataRow>,
     next: Option<TextKey>,
 }
@@ -62,7 +62,7 @@ pub struct TextsAhead {
 impl TextsAhead {
     /// No texts of any object. It takes no memory.
     pub fn new() -> TextsAhead
-        ensures { (s : State) → AreRead s result }
+        ensures { (s : State) → AreReadAhead s result }
     {
         TextsAhead {
             read: None,
@@ -72,8 +72,8 @@ impl TextsAhead {
 
     /// Takes out the metadata of the object of this row, which is there, where all of it was read.
     pub fn take(&mut self, row: &ObjectRow) -> Option<Metadata>
-        ensures left { (s : State) → AreRead s self.old → AreRead s self.new }
-        ensures taken { IfSome result (λ metadata. (s : State) → IsSound s → AreRead s self.old
+        ensures left { (s : State) → AreReadAhead s self.old → AreReadAhead s self.new }
+        ensures taken { IfSome result (λ metadata. (s : State) → IsSound s → AreReadAhead s self.old
             → HasRow s row.now
             → IsDescribed s row.now.object (record { row = row.now; metadata = metadata })) }
     {
@@ -92,9 +92,9 @@ impl TextsAhead {
     /// Takes out what was read of the object of this row, which may be nothing yet. It is `None` where texts of another
     /// object are held, for which a request waits.
     fn take_on(&mut self, alloc: Global, row: &ObjectRow) -> Option<ReadTexts>
-        ensures left { (s : State) → AreRead s self.old → AreRead s self.new }
-        ensures taken { IfSome result (λ read. (s : State) → IsSound s → AreRead s self.old
-            → HasRow s row.now → IsRead s read) }
+        ensures left { (s : State) → AreReadAhead s self.old → AreReadAhead s self.new }
+        ensures taken { IfSome result (λ read. (s : State) → IsSound s → AreReadAhead s self.old
+            → HasRow s row.now → AreTextsOf s read) }
     {
         match self.read.take() {
             Some(read) if read.object == row.object && read.tag == row.object_tag => Some(read),
@@ -109,14 +109,14 @@ impl TextsAhead {
 
     /// Forgets what was read, as no request waits for it.
     pub fn forget(&mut self)
-        ensures { (s : State) → AreRead s self.new }
+        ensures { (s : State) → AreReadAhead s self.new }
     {
         self.read = None;
         self.held = 0;
     }
 
     fn put(&mut self, read: ReadTexts)
-        ensures { (s : State) → IsRead s read → AreRead s self.new }
+        ensures { (s : State) → AreTextsOf s read → AreReadAhead s self.new }
     {
         self.read = Some(read);
         self.held = 0;
@@ -126,7 +126,7 @@ impl TextsAhead {
 impl ReadTexts {
     // Nothing is read yet of the object of this row.
     fn none_of(alloc: Global, row: &ObjectRow) -> ReadTexts
-        ensures { (s : State) → IsSound s → HasRow s row.now → IsRead s result }
+        ensures { (s : State) → IsSound s → HasRow s row.now → AreTextsOf s result }
     {
         ReadTexts {
             object: row.object,
@@ -176,29 +176,29 @@ fn next_page<T: Statements>(
     alloc: Global,
     object: u64,
     from: &TextKey,
-) -> Result<Page, StoreFault>
+) -> Result<TextsPage, StoreFault>
     ensures does { ReadsMaps T.lenders T.state tx.old tx.new result
         (λ s. IsPage (metadata_rows object (metadata_at s.objects object)) from.now) }
 {
     let rows = texts_from(tx, alloc, object, &from.name, from.place)?;
     if !rows.is_empty() {
         let next = key_behind(alloc, rows.as_slice())?;
-        return Ok(Page { rows, next });
+        return Ok(TextsPage { rows, next });
     }
     let behind = name_behind(alloc, &from.name)?;
     let rows = texts_from_name(tx, alloc, object, &behind)?;
     if rows.len() < PAGE_SIZE {
-        return Ok(Page { rows, next: None });
+        return Ok(TextsPage { rows, next: None });
     }
     let next = key_behind(alloc, rows.as_slice())?;
-    Ok(Page { rows, next })
+    Ok(TextsPage { rows, next })
 }
 
 // Gathers the texts of a page behind those that were read.
-fn with_page(alloc: Global, read: ReadTexts, page: Page) -> Result<ReadTexts, StoreFault>
-    ensures { IfOk result (λ now. (s : State) → read.is_whole ≡ false → IsRead s read
+fn with_page(alloc: Global, read: ReadTexts, page: TextsPage) -> Result<ReadTexts, StoreFault>
+    ensures { IfOk result (λ now. (s : State) → read.is_whole ≡ false → AreTextsOf s read
         → IsPage (metadata_rows read.object (metadata_at s.objects read.object)) read.next page
-        → IsRead s now) }
+        → AreTextsOf s now) }
 {
     let mut metadata = read.metadata;
     let last = gather_rows(alloc, &mut metadata, read.last, page.rows)?;
@@ -230,7 +230,7 @@ fn read_on<T: Statements>(
     read: ReadTexts,
 ) -> Result<ReadTexts, StoreFault>
     ensures does { ReadsOver T.lenders T.state tx.old tx.new result
-        (λ s. read.is_whole ≡ false → IsRead s read → IfOk result (IsRead s)) }
+        (λ s. read.is_whole ≡ false → AreTextsOf s read → IfOk result (AreTextsOf s)) }
 {
     let page = next_page(tx, alloc, read.object, &read.next)?;
     with_page(alloc, read, page)

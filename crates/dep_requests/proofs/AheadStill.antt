@@ -2,15 +2,15 @@
 use Rattle.std.proofs.Common.{◌≡◌, ◌<◌, ℕ, Option, Some, None, IfSome, arith, subst, sym}
 use Rattle.dep_types.specs.State.{State, Object}
 use Rattle.dep_decisions.specs.Laws.{KeepsObjects}
-use Rattle.dep_objects.specs.Ahead.{AreRead, IsRead}
+use Rattle.dep_objects.specs.Ahead.{AreReadAhead, AreTextsOf}
 use Rattle.dep_objects.specs.declared.ahead.ReadTexts.{ReadTexts}
 use Rattle.dep_objects.specs.declared.ahead.TextsAhead.{TextsAhead}
 
 -- texts that were read: a changed object has another tag
-pub texts_still : (s t : State) (ahead : TextsAhead) → KeepsObjects s t → AreRead s ahead → AreRead t ahead
+pub texts_still : (s t : State) (ahead : TextsAhead) → KeepsObjects s t → AreReadAhead s ahead → AreReadAhead t ahead
 texts_still s t ahead keeps are = go ahead.read are
   where
-    go : (read : Option ReadTexts) → IfSome read (IsRead s) → IfSome read (IsRead t)
+    go : (read : Option ReadTexts) → IfSome read (AreTextsOf s) → IfSome read (AreTextsOf t)
     go None h = tt
     go (Some read) h = record {
       given = omega (arith, h.given, keeps.next);

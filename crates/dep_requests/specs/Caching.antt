@@ -69,11 +69,11 @@ has_value Absent = false
 has_value Bad = false
 
 -- a reply that shows this is made of all the texts of an object's metadata
-abbrev pub shows_texts : Target → Bool
-shows_texts target = reads_texts (read_set_at target.resource (is_head target.method))
+abbrev pub reads_all_texts : Target → Bool
+reads_all_texts target = reads_texts (read_set_at target.resource (is_head target.method))
 
 -- the request only reads, not all the texts of an object's metadata, and its head speaks of no content that would be kept
 abbrev pub is_plain_read : Operation → Bool
 is_plain_read op = is_safe op.target.method
     && not (has_value op.fields.disposition) && not (has_value op.fields.content_type)
-    && not (shows_texts op.target)
+    && not (reads_all_texts op.target)

@@ -21,7 +21,7 @@ use Rattle.dep_answers.specs.declared.read_set.Shown.{Shown}
 use Rattle.dep_answers.specs.declared.read_set.Shown.TheVariants.{Nothing}
 use Rattle.dep_tables.specs.Tables.{IsOurs}
 use Rattle.dep_row_maps.specs.Clauses.{FromMaps, SeesState}
-use Rattle.dep_objects.specs.Ahead.{AreRead}
+use Rattle.dep_objects.specs.Ahead.{AreReadAhead}
 use Rattle.dep_objects.specs.declared.ahead.TextsAhead.{TextsAhead}
 use Rattle.dep_views.specs.Ahead.{IsAhead}
 use Rattle.dep_views.specs.declared.ahead.WorkAhead.{WorkAhead}
@@ -114,7 +114,7 @@ abbrev pub IsCarriedOut : (old new : db.State) → Operation → Ruled → Decis
     → Result Shown StoreFault → Type 0
 IsCarriedOut old new op ruled decision texts result = FromMaps old new (λ s. (config : Config)
     → IsSound s → AreFit op.fields → SeesTruly config s op ruled → IsRuling config s op (Do decision)
-    → AreRead s texts → IfOk result (ShowsEffect config s op new))
+    → AreReadAhead s texts → IfOk result (ShowsEffect config s op new))
 
 -- this is ready as the reply of the step, and the tables are those of the state that it leaves
 abbrev pub IsStepped : Config → State → Operation → db.State → Performed → Type 0
@@ -142,5 +142,5 @@ KeepsAhead old new before now =
 abbrev pub FollowsRuling : (old new : db.State) → Config → Operation → Ruled → TextsAhead
     → Result Performed StoreFault → Type 0
 FollowsRuling old new config op ruled texts result = FromMaps old new (λ s. IsSound s
-    → AreFit op.fields → Rules config s op ruled → AreRead s texts
+    → AreFit op.fields → Rules config s op ruled → AreReadAhead s texts
     → IfOk result (IsStepped config s op new))

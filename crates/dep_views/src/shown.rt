@@ -3,7 +3,7 @@
 ghost use Rattle.std.specs.Prelude.{◌≡◌, ⊤, Some, None, IfSome};
 ghost use Rattle.dep_answers.specs.declared.read_set.ReadSet.TheVariants as read_set;
 ghost use Rattle.dep_types.specs.State.{State};
-ghost use Rattle.dep_objects.specs.Ahead.{AreRead};
+ghost use Rattle.dep_objects.specs.Ahead.{AreReadAhead};
 ghost use Rattle.dep_objects.specs.Objects.{HasRow};
 ghost use Rattle.dep_views.specs.Shown.{MayFindRow, MayReadShown, ReadsShown, object_of_read_set, object_row_read};
 
@@ -85,8 +85,8 @@ fn show_rest<T: Statements>(
     row: ObjectRow,
 ) -> Result<Shown, StoreFault>
     ensures does { ReadsShown T.lenders T.state tx.old tx.new result
-        (read_set.Object row.object) (λ s. HasRow s row × AreRead s texts.old) }
-    ensures texts { (s : State) → AreRead s texts.old → AreRead s texts.new }
+        (read_set.Object row.object) (λ s. HasRow s row × AreReadAhead s texts.old) }
+    ensures texts { (s : State) → AreReadAhead s texts.old → AreReadAhead s texts.new }
 {
     if let Some(metadata) = texts.take(&row) {
         let view = with_files(tx, alloc, DescribedObject { row, metadata })?;
@@ -104,8 +104,8 @@ fn show_texts<T: Statements>(
     row: ObjectRow,
 ) -> Result<Shown, StoreFault>
     ensures does { MayReadShown T.lenders T.state tx.old tx.new result
-        (read_set.Metadata row.object) (λ s. HasRow s row × AreRead s texts.old) }
-    ensures texts { (s : State) → AreRead s texts.old → AreRead s texts.new }
+        (read_set.Metadata row.object) (λ s. HasRow s row × AreReadAhead s texts.old) }
+    ensures texts { (s : State) → AreReadAhead s texts.old → AreReadAhead s texts.new }
 {
     if let Some(metadata) = texts.take(&row) {
         return Ok(Shown::Metadata {
@@ -158,8 +158,8 @@ fn show_object<T: Statements>(
     row: ObjectRow,
 ) -> Result<Shown, StoreFault>
     ensures does { MayReadShown T.lenders T.state tx.old tx.new result read_set.now
-        (λ s. (Some row ≡ object_row_read s read_set.now) × AreRead s texts.old) }
-    ensures texts { (s : State) → AreRead s texts.old → AreRead s texts.new }
+        (λ s. (Some row ≡ object_row_read s read_set.now) × AreReadAhead s texts.old) }
+    ensures texts { (s : State) → AreReadAhead s texts.old → AreReadAhead s texts.new }
 {
     match *read_set {
         ReadSet::Object(_) => show_rest(tx, alloc, texts, row),
@@ -197,8 +197,8 @@ pub fn load_shown<T: Statements>(
     known: Option<ObjectRow>,
 ) -> Result<Shown, StoreFault>
     ensures does { MayReadShown T.lenders T.state tx.old tx.new result read_set.now
-        (λ s. IfSome known (HasRow s) × AreRead s texts.old) }
-    ensures texts { (s : State) → AreRead s texts.old → AreRead s texts.new }
+        (λ s. IfSome known (HasRow s) × AreReadAhead s texts.old) }
+    ensures texts { (s : State) → AreReadAhead s texts.old → AreReadAhead s texts.new }
 {
     match row_of(tx, read_set, known)? {
         Some(row) => show_object(tx, alloc, texts, read_set, row),

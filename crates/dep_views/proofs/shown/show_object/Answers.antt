@@ -1,30 +1,30 @@
 use Rattle.std.proofs.Common.{refl}
-use Rattle.dep_objects.specs.Ahead.{AreRead}
+use Rattle.dep_objects.specs.Ahead.{AreReadAhead}
 use Rattle.dep_answers.specs.declared.read_set.ReadSet.TheVariants as read_set
 use Rattle.dep_views.proofs.Shows.{beside_texts, may_shown, row_shown, shown_at_once, shown_by_row}
 use Rattle.dep_views.proofs.shown.show_object.Goals as goal
 
 pub returns-in-Object : goal.returns-in-Object
 returns-in-Object g c = record {
-  does = shown_by_row (λ n. read_set.Object n) c.in-Object.field-0 c.args.row (λ s. AreRead s c.args.texts.now) (λ s. refl) c.in-Object.is (may_shown c.show_rest.ensures.does);
+  does = shown_by_row (λ n. read_set.Object n) c.in-Object.field-0 c.args.row (λ s. AreReadAhead s c.args.texts.now) (λ s. refl) c.in-Object.is (may_shown c.show_rest.ensures.does);
   texts = c.show_rest.ensures.texts;
 }
 
 pub returns-in-Payload : goal.returns-in-Payload
 returns-in-Payload g c = record {
-  does = shown_by_row (λ n. read_set.Payload n) c.in-Payload.field-0 c.args.row (λ s. AreRead s c.args.texts.now) (λ s. refl) c.in-Payload.is (beside_texts _ (may_shown c.show_hashed.ensures.does));
+  does = shown_by_row (λ n. read_set.Payload n) c.in-Payload.field-0 c.args.row (λ s. AreReadAhead s c.args.texts.now) (λ s. refl) c.in-Payload.is (beside_texts _ (may_shown c.show_hashed.ensures.does));
   texts = λ s are. are;
 }
 
 pub returns-in-Files : goal.returns-in-Files
 returns-in-Files g c = record {
-  does = shown_by_row (λ n. read_set.Files n) c.in-Files.field-0 c.args.row (λ s. AreRead s c.args.texts.now) (λ s. refl) c.in-Files.is (beside_texts _ (may_shown c.show_listed.ensures.does));
+  does = shown_by_row (λ n. read_set.Files n) c.in-Files.field-0 c.args.row (λ s. AreReadAhead s c.args.texts.now) (λ s. refl) c.in-Files.is (beside_texts _ (may_shown c.show_listed.ensures.does));
   texts = λ s are. are;
 }
 
 pub returns-in-Metadata : goal.returns-in-Metadata
 returns-in-Metadata g c = record {
-  does = shown_by_row (λ n. read_set.Metadata n) c.in-Metadata.field-0 c.args.row (λ s. AreRead s c.args.texts.now) (λ s. refl) c.in-Metadata.is c.show_texts.ensures.does;
+  does = shown_by_row (λ n. read_set.Metadata n) c.in-Metadata.field-0 c.args.row (λ s. AreReadAhead s c.args.texts.now) (λ s. refl) c.in-Metadata.is c.show_texts.ensures.does;
   texts = c.show_texts.ensures.texts;
 }
 
