@@ -167,6 +167,21 @@ def hashed_in_turn(folder, path):
     return took
 
 
+# Texts are read ahead of a request that shows them, so many at once.
+PAGE = 512
+
+
+def shown_whole(host):
+    """The metadata of an object is shown whole: of a name with some pages of texts, and of some pages of names with a few texts."""
+    texts = {"dc:subject": [str(it) for it in range(3 * PAGE)]}
+    texts |= {f"dc:n{it:04}": [str(place) for place in range(1 + it % 3)] for it in range(2 * PAGE)}
+    with Client(host, PATIENCE) as client:
+        reply, _ = client.ask(201, "POST", "/service", json.dumps(texts), METADATA)
+        _, document = client.ask(200, "GET", f"{host.path_of(reply.headers['Location'])}/metadata")
+    came = {name: it if isinstance(it, list) else [it] for name, it in json.loads(document).items() if not name.startswith("@")}
+    expect(f"the metadata of {len(texts):,} names", came == texts, True)
+
+
 def waits():
     """What is refused without a look at an upload's bytes, or once they were hashed, and what reads or adds to an object's many texts,
     holds nobody up, nor does the hashing that a deposit has to wait for. What a host had time to hash isn't hashed anew, also behind
@@ -193,6 +208,7 @@ def waits():
                      "one text more": (200, "POST", described, '{"dc:subject":""}', METADATA),
                      "references of nothing": (404, "POST", "/service", *by_reference(nothing))}
             told = [is_short(what, lambda: waited(host, *request)) for what, request in asked.items()]
+            shown_whole(host)
         told += [is_short(f"the digests of {SIZE // MIB} MiB behind a restart", lambda: waited_anew(folder, [path])),
                  is_short(f"those of {SMALL} uploads", lambda: waited_anew(folder, small))]
         in_turn = hashed_in_turn(folder, path)
