@@ -94,12 +94,12 @@ references_fit : (op : Operation) (o : Option (List Reference)) → AreFitRefere
 references_fit op None fit = tt
 references_fit op (Some refs) fit = referred_fit op refs fit
 
-read_fit : (config : Config) (content : List ℕ) (o : Option (List Reference)) → references_read config content ≡ o → AreFitReferences o
-read_fit config content None h = tt
-read_fit config content (Some refs) h = references-fit config content refs h
+read_fit : (base content : List ℕ) (o : Option (List Reference)) → references_read base content ≡ o → AreFitReferences o
+read_fit base content None h = tt
+read_fit base content (Some refs) h = references-fit base content refs h
 
 references_by_fit : (config : Config) (op : Operation) (o : Option Kind) → AreFitReferences (references_by config op o)
-references_by_fit config op (Some of.References) = read_fit config op.content (references_read config op.content) refl
+references_by_fit config op (Some of.References) = read_fit config.base op.content (references_read config.base op.content) refl
 references_by_fit config op _ = tt
 
 references_in_fit : (config : Config) (op : Operation) → AreFitReferences (references_in config op)

@@ -32,7 +32,7 @@ use Rattle.dep_decisions.specs.declared.decision.Decision.TheVariants.{Show, Cre
 
 -- the entries of a document of references, where that is what the content is for
 abbrev pub references_by : Config → Operation → Option Kind → Option (List Reference)
-references_by config op (Some of.References) = references_read config op.content
+references_by config op (Some of.References) = references_read config.base op.content
 references_by config op _ = None
 
 -- the entries that the content of a request lists, where it is a document of references

@@ -113,10 +113,10 @@ media_of-fit : (d : Data) (media : List ℕ) → media_in_entry d ≡ Some media
 unfolding media_in_entry
 media_of-fit d media h = reported-media (get (codes "contentType") d) media h
 
-reference-fit : (config : Config) (d : Data) (r : Reference) → reference_in config d ≡ Some r → IsFitReference r
+reference-fit : (base : List ℕ) (d : Data) (r : Reference) → reference_in base d ≡ Some r → IsFitReference r
 unfolding reference_in
-reference-fit config d r h =
-    let target = bound (target_of config d) _ r h in
+reference-fit base d r h =
+    let target = bound (target_of base d) _ r h in
     let name = bound (name_of d) _ r target.2 in
     let media = bound (media_in_entry d) _ r name.2 in
     let length = bound (length_of d) _ r media.2 in
@@ -125,24 +125,24 @@ reference-fit config d r h =
     let same : record { target = target.0; name = name.0; media = media.0; length = length.0; packaging = packaging.0; digest = digest.0 } ≡ r = same_some _ r digest.2 in
     subst IsFitReference same (name_of-fit d name.0 name.1, media_of-fit d media.0 media.1)
 
-entries-fit : (config : Config) (ds : Items) (refs : List Reference) → each_read (reference_in config) ds ≡ Some refs → AllByRecursion IsFitReference refs
+entries-fit : (base : List ℕ) (ds : Items) (refs : List Reference) → each_read (reference_in base) ds ≡ Some refs → AllByRecursion IsFitReference refs
 unfolding each_read
-entries-fit config no_items refs h =
+entries-fit base no_items refs h =
     let same : [] ≡ refs = cc h in
     subst (AllByRecursion IsFitReference) same tt
-entries-fit config (item d ds) refs h =
-    let entry = bound (reference_in config d) (λ entry. each_read (reference_in config) ds >>= (λ entries. Some (entry ∷ entries))) refs h in
-    let entries = bound (each_read (reference_in config) ds) (λ entries. Some (entry.0 ∷ entries)) refs entry.2 in
+entries-fit base (item d ds) refs h =
+    let entry = bound (reference_in base d) (λ entry. each_read (reference_in base) ds >>= (λ entries. Some (entry ∷ entries))) refs h in
+    let entries = bound (each_read (reference_in base) ds) (λ entries. Some (entry.0 ∷ entries)) refs entry.2 in
     let same : entry.0 ∷ entries.0 ≡ refs = cc (entries.2) in
-    subst (AllByRecursion IsFitReference) same (reference-fit config d entry.0 entry.1, entries-fit config ds entries.0 entries.1)
+    subst (AllByRecursion IsFitReference) same (reference-fit base d entry.0 entry.1, entries-fit base ds entries.0 entries.1)
 
 not_empty-is : (refs more : List Reference) → not_empty refs ≡ Some more → refs ≡ more
 not_empty-is [] more h = cc h
 not_empty-is (r ∷ refs) more h = cc h
 
-pub references-fit : (config : Config) (content : List ℕ) (refs : List Reference) → references_read config content ≡ Some refs → AllByRecursion IsFitReference refs
-references-fit config content refs h =
+pub references-fit : (base : List ℕ) (content : List ℕ) (refs : List Reference) → references_read base content ≡ Some refs → AllByRecursion IsFitReference refs
+references-fit base content refs h =
     let d = bound (document content) _ refs h in
     let items = bound (provided (has_type (codes "ByReference") d.0) (get (codes "byReferenceFiles") d.0 >>= as_array)) _ refs d.2 in
-    let entries = bound (each_read (reference_in config) items.0) not_empty refs items.2 in
-    subst (AllByRecursion IsFitReference) (not_empty-is entries.0 refs entries.2) (entries-fit config items.0 entries.0 entries.1)
+    let entries = bound (each_read (reference_in base) items.0) not_empty refs items.2 in
+    subst (AllByRecursion IsFitReference) (not_empty-is entries.0 refs entries.2) (entries-fit base items.0 entries.0 entries.1)

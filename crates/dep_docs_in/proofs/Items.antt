@@ -8,14 +8,11 @@ use Rattle.serde_json.specs.Find.{as_str, as_array}
 use Rattle.serde_json.specs.View.{view, items_view}
 use Rattle.serde_json.specs.declared.value.Value.{Value}
 use Rattle.dep_types.specs.Maps.{◌>>=◌, provided}
+use Rattle.dep_docs_in.specs.Ahead.{with_front}
 use Rattle.dep_docs_in.specs.Documents.{each_read, not_empty, text_or_list, texts_in}
 use Rattle.dep_docs_in.specs.Faults.{IsUnreadable}
 use Rattle.dep_docs_in.specs.declared.fault.DocFault.{DocFault}
 use Rattle.dep_docs_in.specs.declared.fault.DocFault.TheVariants.{Malformed, Memory}
-
--- what is read, behind what was read before
-abbrev pub with_front : {X : Type 0} → List X → Option (List X) → Option (List X)
-with_front front read = option_map (λ xs. front ++ xs) read
 
 module _ {X : Type 0} (reads : Data → Option X) where
   pub none_yet : (front : List X) (o : Option (List X)) → front ≡ [] → o ≡ with_front front o
@@ -65,11 +62,11 @@ module _ {X : Type 0} (reads : Data → Option X) where
   then_one _ _ = refl
 
   -- where there are items, something is read or nothing can be
-  pub some_read : (b : Bool) (o : Option Items) (vs : List Value) → b ≡ true → o ≡ Some (items_view vs) → (length vs == 0) ≡ false
-      → (provided b o >>= (λ items. each_read reads items >>= not_empty)) ≡ each_read reads (items_view vs)
+  pub some_read : (o : Option Items) (vs : List Value) → o ≡ Some (items_view vs) → 0 < length vs
+      → (o >>= (λ items. each_read reads items >>= not_empty)) ≡ each_read reads (items_view vs)
   unfolding each_read
-  some_read b o [] is there some = cc some
-  some_read b o (v ∷ vs) is there some = rw is (rw there (then_one (reads (view v)) (each_read reads (items_view vs))))
+  some_read o [] there some = absurd (omega (arith, some))
+  some_read o (v ∷ vs) there some = rw there (then_one (reads (view v)) (each_read reads (items_view vs)))
 
   pub none_read : (b : Bool) (o : Option Items) (vs : List Value) → o ≡ Some (items_view vs) → (length vs == 0) ≡ true
       → (provided b o >>= (λ items. each_read reads items >>= not_empty)) ≡ None

@@ -14,7 +14,6 @@ use Rattle.dep_types.specs.Maps.{◌>>=◌, provided, optional}
 use Rattle.dep_types.specs.State.{Texts}
 use Rattle.dep_types.specs.Names.{if_passes, is_kept_name, is_media}
 use Rattle.dep_types.specs.Numbers.{number_in}
-use Rattle.dep_types.specs.declared.config.Config.{Config}
 use Rattle.dep_params.specs.Grammar.{DispositionValue, names_of}
 use Rattle.dep_params.specs.Reported.{file_name_of, is_each_once, disposition_of}
 use Rattle.dep_fixity.specs.Fixity.{digest_field, none_promised}
@@ -92,14 +91,14 @@ abbrev pub behind : (front text : List ℕ) → Option (List ℕ)
 behind front text = if starts_with nat_eq text front then Some (drop (length front) text) else None
 
 -- the number of an upload of this server, by the text of its URL
-abbrev pub upload_in_url : Config → List ℕ → Option ℕ
-upload_in_url config url = behind config.base url >>= behind (codes "/staging/") >>= number_in
+abbrev pub upload_in_url : (base url : List ℕ) → Option ℕ
+upload_in_url base url = behind base url >>= behind (codes "/staging/") >>= number_in
 
-abbrev pub pointed_by : Config → List ℕ → Pointed
-pointed_by config url = option_map_or (λ n. Upload n) (upload_in_url config url) Elsewhere
+abbrev pub pointed_by : (base url : List ℕ) → Pointed
+pointed_by base url = option_map_or (λ n. Upload n) (upload_in_url base url) Elsewhere
 
-unfoldable pub target_of : Config → Data → Option Pointed
-target_of config d = option_map (pointed_by config) (text_under (codes "@id") d >>= url_text)
+unfoldable pub target_of : (base : List ℕ) → Data → Option Pointed
+target_of base d = option_map (pointed_by base) (text_under (codes "@id") d >>= url_text)
 
 -- the file name of an attachment
 abbrev pub form_name : DispositionValue → Option (List ℕ)
@@ -133,9 +132,9 @@ digest_of d =
     option_map_or (λ t. option_and_then digest_field (as_str t))
     (get (codes "digest") d) (Some none_promised)
 
-unfoldable pub reference_in : Config → Data → Option Reference
-reference_in config d = do
-  target ← target_of config d
+unfoldable pub reference_in : (base : List ℕ) → Data → Option Reference
+reference_in base d = do
+  target ← target_of base d
   name ← name_of d
   media ← media_in_entry d
   length ← length_of d
@@ -154,13 +153,17 @@ abbrev pub not_empty : {X : Type 0} → List X → Option (List X)
 not_empty [] = None
 not_empty (x ∷ xs) = Some (x ∷ xs)
 
--- the entries of a document of references, by its value
-abbrev pub references_of : Config → Data → Option (List Reference)
-references_of config d = do
-  items ← provided (has_type (codes "ByReference") d) (items_under (codes "byReferenceFiles") d)
-  entries ← each_read (reference_in config) items
+-- the entries that a document of references has, by its value
+abbrev pub entries_of : Data → Option Items
+entries_of d = provided (has_type (codes "ByReference") d) (items_under (codes "byReferenceFiles") d)
+
+-- what they say, to a server of this base
+abbrev pub references_of : (base : List ℕ) → Data → Option (List Reference)
+references_of base d = do
+  items ← entries_of d
+  entries ← each_read (reference_in base) items
   not_empty entries
 
 -- and by its text
-abbrev pub references_read : Config → List ℕ → Option (List Reference)
-references_read config content = document content >>= references_of config
+abbrev pub references_read : (base content : List ℕ) → Option (List Reference)
+references_read base content = document content >>= references_of base

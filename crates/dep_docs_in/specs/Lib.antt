@@ -1,3 +1,4 @@
 pub mod Faults
 pub mod Documents
 pub mod Fit
+pub mod Ahead

@@ -1,11 +1,12 @@
 //! Documents of references.
-ghost use Rattle.std.specs.Prelude.{◌≡◌, option_and_then};
+ghost use Rattle.std.specs.Prelude.{◌≡◌, ◌<◌, ◌≤◌, ◌+◌, ℕ, List, length, Some, None, OnOk, IfErr, IfSome, option_and_then};
 ghost use Rattle.std.specs.Option.{option_copied};
 ghost use Rattle.serde_json.specs.Find.{as_str};
 ghost use Rattle.serde_json.specs.View.{view, items_view};
 ghost use Rattle.dep_fixity.specs.Fixity.{digest_field};
-ghost use Rattle.dep_docs_in.specs.Documents.{behind, digest_of, each_read, form_name, length_of, media_in, media_in_entry, name_of, packaging_of, pointed_by, reference_in, references_of, references_read, target_of, upload_in_url};
-ghost use Rattle.dep_docs_in.specs.Faults.{GivesRead};
+ghost use Rattle.dep_docs_in.specs.Ahead.{read_behind};
+ghost use Rattle.dep_docs_in.specs.Documents.{behind, digest_of, each_read, entries_of, form_name, length_of, media_in, media_in_entry, name_of, packaging_of, pointed_by, reference_in, references_of, references_read, target_of, upload_in_url};
+ghost use Rattle.dep_docs_in.specs.Faults.{GivesRead, IsUnreadable};
 
 use crate::document::{document, has_type, items_of, text_in, text_of};
 use crate::fault::DocFault;
@@ -29,25 +30,27 @@ pub fn read_references(
     config: &Config,
     content: &[u8],
 ) -> Result<List<Reference>, DocFault>
-    ensures { GivesRead result (references_read config.now content.now) }
+    ensures { GivesRead result (references_read config.now.base content.now) }
 {
     let document = document(alloc, content)?;
-    references_of(alloc, config, &document)
+    match entries_of(&document) {
+        Some(entries) => entries_in(alloc, config, entries),
+        None => Err(DocFault::Malformed),
+    }
 }
 
-fn references_of(
-    alloc: Global,
-    config: &Config,
-    document: &Value,
-) -> Result<List<Reference>, DocFault>
-    ensures { GivesRead result (references_of config.now (view document.now)) }
+/// The entries of a document of references, at least one.
+pub(crate) fn entries_of(document: &Value) -> Option<&Vec<Value>>
+    ensures some { IfSome result (λ entries. (0 < length entries.now.items)
+        × (entries_of (view document.now) ≡ Some (items_view entries.now.items))) }
+    ensures none { result ≡ None → (base : List ℕ) → references_of base (view document.now) ≡ None }
 {
     if !has_type(document, "ByReference") {
-        return Err(DocFault::Malformed);
+        return None;
     }
     match items_of(document, "byReferenceFiles") {
-        Some(entries) if !entries.is_empty() => entries_in(alloc, config, entries),
-        _ => Err(DocFault::Malformed),
+        Some(entries) if !entries.is_empty() => Some(entries),
+        _ => None,
     }
 }
 
@@ -56,18 +59,39 @@ fn entries_in(
     config: &Config,
     entries: &[Value],
 ) -> Result<List<Reference>, DocFault>
-    ensures { GivesRead result (each_read (reference_in config.now) (items_view entries.now)) }
+    ensures { GivesRead result (each_read (reference_in config.now.base) (items_view entries.now)) }
 {
     let mut references = Vec::new(alloc);
-    for entry in entries {
+    read_some(alloc, config, entries, &mut references, entries.len())?;
+    Ok(List::from_vec(references))
+}
+
+/// Reads up to so many of the entries behind those whose references are there.
+pub(crate) fn read_some(
+    alloc: Global,
+    config: &Config,
+    entries: &[Value],
+    references: &mut Vec<Reference>,
+    count: usize,
+) -> Result<(), DocFault>
+    ensures ok { OnOk result (read_behind config.now.base references.old.items (items_view entries.now)
+        ≡ read_behind config.now.base references.new.items (items_view entries.now)) }
+    ensures all { OnOk result (length entries.now ≤ length references.old.items + count
+        → length entries.now ≤ length references.new.items) }
+    ensures err { IfErr result (λ e. IsUnreadable e
+        (read_behind config.now.base references.old.items (items_view entries.now))) }
+{
+    let end = entries.len().min(references.len().saturating_add(count));
+    while references.len() < end {
+        let entry = &entries[references.len()];
         references.push(reference_in(alloc, config, entry)?)?;
     }
-    Ok(List::from_vec(references))
+    Ok(())
 }
 
 #[tactic(auto, unfolding(crate::specs::Documents::reference_in))]
 fn reference_in(alloc: Global, config: &Config, entry: &Value) -> Result<Reference, DocFault>
-    ensures { GivesRead result (reference_in config.now (view entry.now)) }
+    ensures { GivesRead result (reference_in config.now.base (view entry.now)) }
 {
     let target = target_of(alloc, config, entry)?;
     let name = name_of(alloc, entry)?;
@@ -88,7 +112,7 @@ fn reference_in(alloc: Global, config: &Config, entry: &Value) -> Result<Referen
 // What the URL of an entry points at.
 #[tactic(auto, unfolding(crate::specs::Documents::target_of))]
 fn target_of(alloc: Global, config: &Config, entry: &Value) -> Result<Pointed, DocFault>
-    ensures { GivesRead result (target_of config.now (view entry.now)) }
+    ensures { GivesRead result (target_of config.now.base (view entry.now)) }
 {
     let Some(text) = text_of(entry, "@id") else {
         return Err(DocFault::Malformed);
@@ -103,7 +127,7 @@ fn target_of(alloc: Global, config: &Config, entry: &Value) -> Result<Pointed, D
 
 // An upload of this server, or elsewhere, by the text of a URL.
 fn pointed_by(config: &Config, url: &[u8]) -> Pointed
-    ensures { result ≡ pointed_by config.now url.now }
+    ensures { result ≡ pointed_by config.now.base url.now }
 {
     match upload_number(config, url) {
         Some(upload) => Pointed::Upload(upload),
@@ -112,7 +136,7 @@ fn pointed_by(config: &Config, url: &[u8]) -> Pointed
 }
 
 fn upload_number(config: &Config, url: &[u8]) -> Option<u64>
-    ensures { result ≡ upload_in_url config.now url.now }
+    ensures { result ≡ upload_in_url config.now.base url.now }
 {
     let path = behind(config.base.as_str().as_bytes(), url)?;
     positive_decimal(behind(b"/staging/", path)?, GREATEST_NUMBER)
