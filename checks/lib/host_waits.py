@@ -48,7 +48,7 @@ MOST, TRIES = 100, 5
 # An idle machine sums up so many squares in so many seconds. Where one takes longer, as beside the other checks, others may wait
 # longer by as much.
 SQUARES, USUAL = 1_000_000, 0.1
-SIZE, SEGMENT_SIZE, TEXTS, NOTHING = 64 * MIB, 16 * MIB, 400_000, 10_000
+SIZE, SEGMENT_SIZE, TEXTS, NOTHING = 64 * MIB, 16 * MIB, 400_000, 60_000
 # Beside the large upload there are so many of this size. Where they, or it, are hashed already, a request for their digests takes
 # so many seconds of the processor at most; else it takes twice as many and more.
 SMALL, SMALL_SIZE, LITTLE = 40, 2 * MIB, 0.15
@@ -182,6 +182,31 @@ def shown_whole(host):
     expect(f"the metadata of {len(texts):,} names", came == texts, True)
 
 
+# References of a document of more bytes are read ahead of its request, so many at once.
+LONG, REFERENCES = 65_536, 4_096
+
+
+def read_in_parts(host):
+    """A long document of references is ruled and deposited as a whole, also where its entries are read in parts."""
+    nothing = {f"{host.base}/staging/{10**6 + it}": "attachment; filename=a" for it in range(2 * REFERENCES)}
+    body, fields = by_reference(nothing)
+    with Client(host, PATIENCE) as client:
+        client.ask(404, "POST", "/service", body, fields)
+        for at in (0, REFERENCES - 1, REFERENCES, 2 * REFERENCES - 1):
+            for status, url in ((400, "x y"), (412, "http://example.org/a")):
+                entries = json.loads(body)["byReferenceFiles"]
+                entries[at]["@id"] = url
+                client.ask(status, "POST", "/service", json.dumps({"byReferenceFiles": entries}), fields)
+        names = [f"a-name-of-{120 * 'x'}-{it}" for it in range(LONG // 160)]
+        uploads = {upload(client, name.encode(), len(name)): f"attachment; filename={name}" for name in names}
+        body, fields = by_reference(uploads)
+        expect("whether the document is long", len(body) > LONG, True)
+        reply, document = client.ask(201, "POST", "/service", body, fields)
+        links = json.loads(document)["links"]
+        came = [client.ask(200, "GET", host.path_of(it["@id"]))[1].decode() for it in links]
+    expect(f"the contents of {len(names)} files by reference", came == names, True)
+
+
 def waits():
     """What is refused without a look at an upload's bytes, or once they were hashed, and what reads or adds to an object's many texts,
     holds nobody up, nor does the hashing that a deposit has to wait for. What a host had time to hash isn't hashed anew, also behind
@@ -209,6 +234,7 @@ def waits():
                      "references of nothing": (404, "POST", "/service", *by_reference(nothing))}
             told = [is_short(what, lambda: waited(host, *request)) for what, request in asked.items()]
             shown_whole(host)
+            read_in_parts(host)
         told += [is_short(f"the digests of {SIZE // MIB} MiB behind a restart", lambda: waited_anew(folder, [path])),
                  is_short(f"those of {SMALL} uploads", lambda: waited_anew(folder, small))]
         in_turn = hashed_in_turn(folder, path)

@@ -1,13 +1,17 @@
 -- What is ruled by the uploads that references name, before any digest is taken.
-use Rattle.std.proofs.Common.{◌≡◌, ◌∙◌, true, false, List, Option, Some, None, is_some, refl, sym, ap}
+use Rattle.std.proofs.Common.{◌≡◌, ◌∙◌, true, false, List, Option, Some, None, is_some, option_map, refl, sym, ap}
 use Rattle.dep_types.specs.State.{State}
 use Rattle.dep_types.specs.declared.config.Config.{Config}
 use Rattle.dep_types.specs.declared.refusal.Refusal.{Refusal}
 use Rattle.dep_types.specs.declared.target.Resource.TheVariants.{Service}
 use Rattle.dep_fields.specs.declared.kind.Kind.TheVariants as of
 use Rattle.dep_docs_in.specs.declared.reference.Reference.{Reference}
-use Rattle.dep_decisions.specs.Decisions.{references_in}
+use Rattle.dep_docs_in.specs.Documents.{references_read}
+use Rattle.dep_decisions.specs.Decisions.{references_by, references_in}
 use Rattle.dep_decisions.specs.Kinds.{content_kind}
+use Rattle.dep_decisions.specs.Purposes.{kind_for}
+use Rattle.dep_decisions.specs.declared.purpose.Purpose.{Purpose}
+use Rattle.dep_decisions.specs.declared.purpose.Purpose.TheVariants.{References}
 use Rattle.dep_decisions.specs.Laws.{refusal_before_room, uploads_refusal}
 use Rattle.dep_decisions.specs.LookUps.{in_state, without_entries}
 use Rattle.dep_decisions.specs.declared.operation.Operation.{Operation}
@@ -88,3 +92,9 @@ module _ (config : Config) (s : State) (op : Operation) (loaded : LoadedView) wh
             refused = λ q e. is ∙ e;
             passed = λ none. cc none;
           }
+
+-- the references in a content that is for references
+pub named_in : (config : Config) (op : Operation) (purpose : Option Purpose) → option_map kind_for purpose ≡ content_kind op → purpose ≡ Some References
+    → references_in config op ≡ references_read config.base op.content
+unfolding references_in
+named_in config op purpose kind is = ap (references_by config op) (sym kind ∙ ap (option_map kind_for) is)

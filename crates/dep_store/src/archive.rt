@@ -122,7 +122,7 @@ impl<S: Alter> Archive for HashingStore<S> {
     }
 
     /// Does a part of what the request that waits needs, or, where none does, hashes a part of an upload that one may name later,
-    /// and forgets what texts were read, unless the log is to be copied first.
+    /// and forgets what was read, unless the log is to be copied first.
     fn work_ahead(&mut self, service: &Service, next: Option<&Operation<'_>>) -> bool
         ensures asked { Runs (WorkedAhead result)
             (call_log_of S.Store self.old) (call_log_of S.Store self.new) }
@@ -149,6 +149,7 @@ impl<S: Alter> Archive for HashingStore<S> {
             return hashed.unwrap_or(false);
         }
         self.ahead.texts.forget();
+        self.ahead.references.forget();
         if !self.is_due {
             return false;
         }

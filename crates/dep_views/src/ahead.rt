@@ -3,6 +3,7 @@
 ghost use Rattle.dep_types.specs.State.{State};
 ghost use Rattle.dep_views.specs.Ahead.{IsAhead};
 
+use dep_docs_in::ReferencesAhead;
 use dep_objects::TextsAhead;
 use dep_staging::RunningHashes;
 use std::alloc::Global;
@@ -14,6 +15,8 @@ pub struct WorkAhead {
     pub hashes: RunningHashes,
     /// The texts of an object that were read.
     pub texts: TextsAhead,
+    /// The references of a content that were read.
+    pub references: ReferencesAhead,
 }
 
 impl WorkAhead {
@@ -24,6 +27,7 @@ impl WorkAhead {
         WorkAhead {
             hashes: RunningHashes::new(alloc),
             texts: TextsAhead::new(),
+            references: ReferencesAhead::new(),
         }
     }
 }

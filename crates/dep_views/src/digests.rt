@@ -16,7 +16,7 @@ use std::alloc::Global;
 
 /// Of so many uploads that a document names all is hashed before it is answered: of half as many as
 /// it is kept how far they were hashed.
-const MOST_HASHED: usize = 1_024;
+const MOST_HASHED: usize = 4_096;
 
 // What became of the number of an upload, which is hashed where it is whole. No row is read.
 fn hash_state<T: Statements>(
@@ -75,7 +75,7 @@ fn hash_uploads<T: Statements>(
 }
 
 /// Hashes up to so many blocks of the uploads of these numbers, which references name, one after
-/// another, and returns whether more may be left: of the first 1,024, so that none of them gives way
+/// another, and returns whether more may be left: of the first 4,096, so that none of them gives way
 /// to another. Of each one row is read, and none of a segment. Where one isn't there, or lacks a
 /// segment, nothing behind it is hashed, since it refuses the deposit.
 pub fn hash_named<T: Statements>(

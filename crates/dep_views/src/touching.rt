@@ -7,15 +7,17 @@ ghost use Rattle.dep_decisions.specs.Purposes.{kind_for};
 ghost use Rattle.dep_operations.specs.Views.{file_in, object_in, path_in, segment_in, touched_by, uploads_looked_up, uploads_named};
 
 use dep_decisions::{Operation, Purpose};
-use dep_docs_in::{DocFault, Pointed, Reference, read_references};
+use dep_docs_in::{DocFault, Pointed, Reference, ReferencesAhead};
 use dep_operations::{SegmentId, Touched};
 use dep_types::{Config, List, Octets, Resource};
 use std::alloc::{AllocError, Global};
 
 /// Returns the numbers at which a request looks at the archive, whose content is for this purpose
-/// (`content_purpose`). A document of references is read here, and only here. An `Err` is lack of memory.
+/// (`content_purpose`). A document of references is read here, unless it was read ahead: its references are taken out
+/// then. An `Err` is lack of memory.
 pub fn touches(
     alloc: Global,
+    ahead: &mut ReferencesAhead,
     config: &Config,
     operation: &Operation<'_>,
     purpose: Option<Purpose<'_>>,
@@ -25,7 +27,7 @@ pub fn touches(
 {
     let resource = &operation.target.resource;
     let path = path_in(alloc, resource)?;
-    let references = references_for(alloc, config, operation, purpose)?;
+    let references = references_for(alloc, ahead, config, operation, purpose)?;
     let uploads = uploads_in(alloc, resource, references.as_ref())?;
     Ok(Touched {
         object: object_in(resource),
@@ -41,6 +43,7 @@ pub fn touches(
 #[tactic(auto, unfolding(dep_decisions::specs::Decisions::references_in))]
 fn references_for(
     alloc: Global,
+    ahead: &mut ReferencesAhead,
     config: &Config,
     operation: &Operation<'_>,
     purpose: Option<Purpose<'_>>,
@@ -51,7 +54,7 @@ fn references_for(
     let Some(Purpose::References) = purpose else {
         return Ok(None);
     };
-    match read_references(alloc, config, operation.content.as_slice()) {
+    match ahead.take(alloc, config, operation.content.as_slice()) {
         Ok(references) => Ok(Some(references)),
         Err(DocFault::Malformed) => Ok(None),
         Err(DocFault::Memory) => Err(AllocError),
