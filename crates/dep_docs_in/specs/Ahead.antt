@@ -4,8 +4,8 @@ use Rattle.serde_json.specs.Data.{Items, no_items, item}
 use Rattle.serde_json.specs.View.{view}
 use Rattle.dep_types.specs.Maps.{◌>>=◌}
 use Rattle.dep_docs_in.specs.Documents.{each_read, entries_of, reference_in, references_read}
-use Rattle.dep_docs_in.specs.declared.ahead.Reading.{Reading}
-use Rattle.dep_docs_in.specs.declared.ahead.Reading.TheVariants.{Part, Whole, Malformed, Lent}
+use Rattle.dep_docs_in.specs.declared.ahead.ReadEntries.{ReadEntries}
+use Rattle.dep_docs_in.specs.declared.ahead.ReadEntries.TheVariants.{Part, Whole, Malformed, Lent}
 use Rattle.dep_docs_in.specs.declared.reference.Reference.{Reference}
 
 -- what is read, behind what was read before
@@ -24,7 +24,7 @@ read_behind base front ds =
     with_front front (each_read (reference_in base) (items_behind (length front) ds))
 
 -- what was read of a content is what it says
-abbrev pub IsReading : (base content : List ℕ) → Reading → Type 0
+abbrev pub IsReading : (base content : List ℕ) → ReadEntries → Type 0
 IsReading base content (Part document references) =
     references_read base content ≡ (entries_of (view document) >>= read_behind base references.items)
 IsReading base content (Whole references) = references_read base content ≡ Some references

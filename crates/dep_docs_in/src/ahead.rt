@@ -25,7 +25,7 @@ const MOST_HELD: u32 = 1_024;
 
 /// How far a document of references was read.
 #[derive(Drop)]
-pub(crate) enum Reading {
+pub(crate) enum ReadEntries {
     /// The references of its first entries.
     Part {
         document: Value,
@@ -41,17 +41,17 @@ pub(crate) enum Reading {
 
 /// A content, and what was read of it by a server of this base.
 #[derive(Drop)]
-pub(crate) struct ReadContent {
+pub(crate) struct ReadDocument {
     base: Text,
     content: Octets,
-    reading: Reading,
+    entries: ReadEntries,
 }
 
 /// The references of one content, as far as they were read ahead of the request that brings it. They are lost with the process.
 /// Contracts see nothing of them: what is read ahead changes no result.
 #[derive(Drop)]
 pub struct ReferencesAhead {
-    read: Option<ReadContent>,
+    read: Option<ReadDocument>,
     /// How often it was held since a part of it was read.
     held: u32,
 }
@@ -64,30 +64,30 @@ impl Model for ReferencesAhead {
 
     ghost view = { λ _. tt };
 
-    ghost invariant = { λ a. IfSome a.read (λ r. IsReading r.base r.content r.reading) };
+    ghost invariant = { λ a. IfSome a.read (λ r. IsReading r.base r.content r.entries) };
 }
 
-impl Reading {
+impl ReadEntries {
     // The document is read as JSON, and none of its entries yet.
-    fn begun(alloc: Global, content: &[u8]) -> Result<Reading, AllocError>
+    fn begun(alloc: Global, content: &[u8]) -> Result<ReadEntries, AllocError>
         ensures { IfOk result (λ reading. (base : List ℕ) → IsReading base content.now reading) }
     {
         match document(alloc, content) {
-            Ok(document) if entries_of(&document).is_some() => Ok(Reading::Part {
+            Ok(document) if entries_of(&document).is_some() => Ok(ReadEntries::Part {
                 document,
                 references: Vec::new(alloc),
             }),
-            Ok(_) | Err(DocFault::Malformed) => Ok(Reading::Malformed),
+            Ok(_) | Err(DocFault::Malformed) => Ok(ReadEntries::Malformed),
             Err(DocFault::Memory) => Err(AllocError),
         }
     }
 
     // Reads the next entries, where some may be left.
-    fn go_on(self, alloc: Global, config: &Config) -> Result<Reading, AllocError>
+    fn go_on(self, alloc: Global, config: &Config) -> Result<ReadEntries, AllocError>
         ensures { IfOk result (λ now. (content : List ℕ) → IsReading config.now.base content self
             → IsReading config.now.base content now) }
     {
-        let Reading::Part {
+        let ReadEntries::Part {
             document,
             mut references,
         } = self
@@ -96,31 +96,42 @@ impl Reading {
         };
         // A document without entries isn't kept as one of which a part was read.
         let Some(entries) = entries_of(&document) else {
-            return Ok(Reading::Lent);
+            return Ok(ReadEntries::Lent);
         };
         match read_some(alloc, config, entries, &mut references, ENTRIES_AT_ONCE) {
-            Ok(()) if references.len() < entries.len() => Ok(Reading::Part {
+            Ok(()) if references.len() < entries.len() => Ok(ReadEntries::Part {
                 document,
                 references,
             }),
-            Ok(()) => Ok(Reading::Whole(List::from_vec(references))),
-            Err(DocFault::Malformed) => Ok(Reading::Malformed),
+            Ok(()) => Ok(ReadEntries::Whole(List::from_vec(references))),
+            Err(DocFault::Malformed) => Ok(ReadEntries::Malformed),
             Err(DocFault::Memory) => Err(AllocError),
         }
     }
 }
 
-impl ReadContent {
+impl ReadDocument {
+    fn is_for(&self, config: &Config) -> bool
+        ensures { IsTrue result → self.now.base ≡ config.now.base }
+    {
+        self.base.as_str() == config.base.as_str()
+    }
+
     fn is_of(&self, config: &Config, content: &[u8]) -> bool
         ensures { IsTrue result
             → (self.now.base ≡ config.now.base) × (self.now.content ≡ content.now) }
     {
-        self.base.as_str() == config.base.as_str() && self.content.as_slice() == content
+        self.is_for(config) && self.content.as_slice() == content
+    }
+
+    // Whether entries are left.
+    fn is_part(&self) -> bool {
+        matches!(self.entries, ReadEntries::Part { .. })
     }
 
     // Whether a request waits for what is read.
     fn is_awaited(&self) -> bool {
-        !matches!(self.reading, Reading::Lent)
+        !matches!(self.entries, ReadEntries::Lent)
     }
 }
 
@@ -133,8 +144,8 @@ impl ReferencesAhead {
         }
     }
 
-    /// Reads some entries of a long content as a document of references, for [`take`](ReferencesAhead::take). It returns whether
-    /// more may be left: also where another content is held, whose request comes first. An `Err` is that of the whole document.
+    /// Reads some entries of a long content as a document of references, for [`take`](ReferencesAhead::take), or, where another
+    /// one is held, whose request comes first, of that. It returns whether more may be left. An `Err` is that of the whole document.
     pub fn read_on(
         &mut self,
         alloc: Global,
@@ -145,44 +156,44 @@ impl ReferencesAhead {
             return Ok(false);
         }
         match self.read.take() {
+            Some(read) if read.is_part() && read.is_for(config) => {
+                let entries = read.entries.go_on(alloc, config)?;
+                self.hold(ReadDocument {
+                    base: read.base,
+                    content: read.content,
+                    entries,
+                });
+                Ok(true)
+            }
             Some(read) if read.is_awaited() && read.is_of(config, content) => {
-                let ReadContent {
-                    base,
-                    content,
-                    reading,
-                } = read;
-                let reading = reading.go_on(alloc, config)?;
-                self.hold(ReadContent {
-                    base,
-                    content,
-                    reading,
-                })
+                let is_malformed = matches!(read.entries, ReadEntries::Malformed);
+                self.hold(read);
+                if is_malformed {
+                    return Err(DocFault::Malformed);
+                }
+                Ok(false)
             }
             Some(read) if read.is_awaited() && self.held < MOST_HELD => {
                 self.read = Some(read);
                 self.held += 1;
                 Ok(true)
             }
-            _ => self.hold(ReadContent {
-                base: Text::copied(alloc, config.base.as_str())?,
-                content: Octets::copied(alloc, content)?,
-                reading: Reading::begun(alloc, content)?,
-            }),
+            _ => {
+                self.hold(ReadDocument {
+                    base: Text::copied(alloc, config.base.as_str())?,
+                    content: Octets::copied(alloc, content)?,
+                    entries: ReadEntries::begun(alloc, content)?,
+                });
+                Ok(true)
+            }
         }
     }
 
-    // Keeps what was read, and returns whether more is left.
-    fn hold(&mut self, read: ReadContent) -> Result<bool, DocFault>
-        requires { IsReading read.base read.content read.reading }
+    fn hold(&mut self, read: ReadDocument)
+        requires { IsReading read.base read.content read.entries }
     {
-        let is_left = match read.reading {
-            Reading::Part { .. } => Ok(true),
-            Reading::Whole(_) | Reading::Lent => Ok(false),
-            Reading::Malformed => Err(DocFault::Malformed),
-        };
         self.read = Some(read);
         self.held = 0;
-        is_left
     }
 
     /// Returns the references of a content ([`read_references`]): those that were read ahead, which are taken out, or else they
@@ -195,34 +206,34 @@ impl ReferencesAhead {
     ) -> Result<List<Reference>, DocFault>
         ensures { GivesRead result (references_read config.now.base content.now) }
     {
-        match self.take_reading(config, content) {
-            Reading::Whole(references) => Ok(references),
-            Reading::Malformed => Err(DocFault::Malformed),
-            Reading::Part { .. } | Reading::Lent => read_references(alloc, config, content),
+        match self.take_entries(config, content) {
+            ReadEntries::Whole(references) => Ok(references),
+            ReadEntries::Malformed => Err(DocFault::Malformed),
+            ReadEntries::Part { .. } | ReadEntries::Lent => read_references(alloc, config, content),
         }
     }
 
     // Takes out what was read of a content.
-    fn take_reading(&mut self, config: &Config, content: &[u8]) -> Reading
+    fn take_entries(&mut self, config: &Config, content: &[u8]) -> ReadEntries
         ensures { IsReading config.now.base content.now result }
     {
         match self.read.take() {
             Some(read) if read.is_of(config, content) => {
-                let ReadContent {
+                let ReadDocument {
                     base,
                     content,
-                    reading,
+                    entries,
                 } = read;
-                self.read = Some(ReadContent {
+                self.read = Some(ReadDocument {
                     base,
                     content,
-                    reading: Reading::Lent,
+                    entries: ReadEntries::Lent,
                 });
-                reading
+                entries
             }
             other => {
                 self.read = other;
-                Reading::Lent
+                ReadEntries::Lent
             }
         }
     }
@@ -233,10 +244,10 @@ impl ReferencesAhead {
     {
         match self.read.take() {
             Some(read) if read.is_of(config, content) => {
-                self.read = Some(ReadContent {
+                self.read = Some(ReadDocument {
                     base: read.base,
                     content: read.content,
-                    reading: Reading::Whole(references),
+                    entries: ReadEntries::Whole(references),
                 });
             }
             other => self.read = other,

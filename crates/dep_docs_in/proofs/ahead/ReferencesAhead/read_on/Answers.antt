@@ -5,9 +5,10 @@ use Rattle.dep_docs_in.proofs.ahead.ReferencesAhead.read_on.Goals as goal
 pub hold-requires : goal.hold-requires
 hold-requires c =
     let read = c.in-Some.read in
-    let known : IsReading read.base read.content read.reading = search rules in
+    let entries = c.in_ok-entries-in-Some in
+    let known : IsReading read.base read.content read.entries = search rules in
     let base : read.base ≡ c.args.config.now.base = search rules in
-    subst (λ b. IsReading b read.content c.in_ok-reading-in-Some.reading) (sym base) (c.in_ok-reading-in-Some.ensures read.content (subst (λ b. IsReading b read.content read.reading) base known))
+    subst (λ b. IsReading b read.content entries.entries) (sym base) (entries.ensures read.content (subst (λ b. IsReading b read.content read.entries) base known))
 
 pub hold-requires-in_default : goal.hold-requires-in_default
 hold-requires-in_default c =

@@ -1,7 +1,7 @@
 use Rattle.std.proofs.Common.{◌≡◌, is_some, rules, true}
 use Rattle.serde_json.specs.View.{view}
 use Rattle.dep_docs_in.proofs.Parts.{begun, taken}
-use Rattle.dep_docs_in.proofs.ahead.Reading.begun.Goals as goal
+use Rattle.dep_docs_in.proofs.ahead.ReadEntries.begun.Goals as goal
 
 pub returns-in-Ok : goal.returns-in-Ok
 returns-in-Ok c base =

@@ -3,7 +3,7 @@ use Rattle.dep_types.specs.Maps.{◌>>=◌}
 use Rattle.serde_json.specs.View.{items_view}
 use Rattle.dep_docs_in.specs.Ahead.{IsReading, read_behind}
 use Rattle.dep_docs_in.proofs.Parts.{all_read}
-use Rattle.dep_docs_in.proofs.ahead.Reading.go_on.Goals as goal
+use Rattle.dep_docs_in.proofs.ahead.ReadEntries.go_on.Goals as goal
 
 pub returns-in-Ok-2 : goal.returns-in-Ok-2
 returns-in-Ok-2 c content is =
