@@ -1,6 +1,6 @@
 //! The digests of what the segments of an upload make, taken one block at a time, and ahead.
 
-ghost use Rattle.std.specs.Prelude.{IfOk};
+ghost use Rattle.std.specs.Prelude.{◌≡◌, IfOk, IsTrue};
 ghost use Rattle.dep_types.specs.Sound.{IsSound};
 ghost use Rattle.dep_row_maps.specs.Clauses.{MayReadOver, ReadsOver};
 ghost use Rattle.dep_staging.specs.Hashing.{AreDigestsOfUpload};
@@ -67,6 +67,24 @@ fn hash_on<T: Statements>(
     hashed
 }
 
+// Hashes all blocks of an upload that are left, as far as no segment is missing, and returns whether
+// all of it was hashed, which comes in so many segments. Where it was before, nothing is read.
+fn hash_rest<T: Statements>(
+    tx: &mut T,
+    run: &mut RunningHash,
+    count: u64,
+) -> Result<bool, StoreFault>
+    ensures does { MayReadOver T.lenders T.state tx.old tx.new result
+        (λ s. IsSound s → IsRunning s run.old → HasGoneOn s run.old run.new) }
+    ensures whole { IfOk result (λ is_whole. IsTrue is_whole → run.new.segments ≡ count) }
+{
+    if run.segments == count {
+        return Ok(true);
+    }
+    hash_blocks(tx, run, u64::MAX)?;
+    Ok(run.segments == count)
+}
+
 /// Returns the SHA-256 and the SHA-512 (FIPS 180-4) of the assembled bytes of the upload of this row, none of whose
 /// segments is missing, and keeps how far it was hashed, whatever is returned. What was hashed before isn't read again;
 /// each other block is read once for both, one at a time. A missing segment is a fault of the store.
@@ -79,11 +97,10 @@ pub fn hash_upload<T: Statements>(
         (λ s. Hashes s running.old running.new (IfOk result (AreDigestsOfUpload s row.now))) }
 {
     let mut run = running.take(row.upload);
-    let hashed = hash_blocks(tx, &mut run, u64::MAX);
-    let is_whole = run.segments == row.count;
+    let hashed = hash_rest(tx, &mut run, row.count);
     let digests = run.hasher.copied().finish();
     running.put(run);
-    hashed?;
+    let is_whole = hashed?;
     if !is_whole {
         return Err(StoreFault::Store);
     }

@@ -11,8 +11,8 @@ use std::alloc::Global;
 use std::collections::BTreeSet;
 use std::num::NonZeroUsize;
 
-/// Of so many uploads it is kept how far they were hashed. Each takes about 430 bytes, so all take less than 1 MiB.
-const MOST_RUNNING: usize = 2_048;
+/// Of so many uploads it is kept how far they were hashed. Each takes about 430 bytes, so all take less than 4 MiB.
+const MOST_RUNNING: usize = 8_192;
 
 /// How far an upload was hashed: its first segments, as far as none is missing.
 #[derive(Drop)]
@@ -65,7 +65,7 @@ impl RunningHash {
     }
 }
 
-/// How far uploads were hashed, of the 2,048 of which that was needed last: segments came to them, a request needed
+/// How far uploads were hashed, of the 8,192 of which that was needed last: segments came to them, a request needed
 /// their digests, or they were in the store when it was opened. A whole upload's digests are read off it at once. It is
 /// lost with the process. Memory is claimed for one upload at a time; where it is refused, one is forgotten.
 #[derive(Drop)]
@@ -95,7 +95,7 @@ impl RunningHashes {
         }
     }
 
-    /// Notes that a segment of the upload may be there that isn't hashed. Nothing is noted of more than 2,048 at once,
+    /// Notes that a segment of the upload may be there that isn't hashed. Nothing is noted of more than 8,192 at once,
     /// nor where memory is refused.
     pub fn note(&mut self, upload: u64)
         ensures { (s : State) → AreRunning s self.old → AreRunning s self.new }
