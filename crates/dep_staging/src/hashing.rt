@@ -77,6 +77,7 @@ fn hash_rest<T: Statements>(
     ensures does { MayReadOver T.lenders T.state tx.old tx.new result
         (λ s. IsSound s → IsRunning s run.old → HasGoneOn s run.old run.new) }
     ensures whole { IfOk result (λ is_whole. IsTrue is_whole → run.new.segments ≡ count) }
+    ensures asks_nothing { run.old.segments ≡ count → tx.new ≡ tx.old }
 {
     if run.segments == count {
         return Ok(true);

@@ -11,6 +11,7 @@ returns-then-run-count g c = record {
     keeps = may_put g.T.Statements.lenders g.T.Statements.state c.args.tx.now _;
   };
   whole = λ same. c.if-run-count.true;
+  asks_nothing = λ same. refl;
 }
 
 pub returns : goal.returns
@@ -20,6 +21,7 @@ returns g c = record {
     keeps = may_ok c.in_ok-hash_blocks.ensures.does.keeps;
   };
   whole = eqb-true c.hash_blocks.new.run.segments c.args.count;
+  asks_nothing = λ same. absurd (c.if-run-count.false same);
 }
 
 pub returns-in_err-hash_blocks : goal.returns-in_err-hash_blocks
@@ -29,4 +31,5 @@ returns-in_err-hash_blocks g c = record {
     keeps = may_err c.from_residual.ensures.0 c.hash_blocks.ensures.does.keeps;
   };
   whole = IfOk-from_err c.from_residual.result _ c.from_residual.ensures.0;
+  asks_nothing = λ same. absurd (c.if-run-count.false same);
 }
