@@ -1,5 +1,5 @@
 -- What is ruled by the uploads that references name, before any digest is taken.
-use Rattle.std.proofs.Common.{◌≡◌, ◌∙◌, true, false, List, Option, Some, None, is_some, option_map, refl, sym, ap}
+use Rattle.std.proofs.Common.{◌≡◌, ◌∙◌, true, false, List, Option, Some, None, is_some, option_map, IfSome, refl, sym, ap}
 use Rattle.dep_types.specs.State.{State}
 use Rattle.dep_types.specs.declared.config.Config.{Config}
 use Rattle.dep_types.specs.declared.refusal.Refusal.{Refusal}
@@ -98,3 +98,8 @@ pub named_in : (config : Config) (op : Operation) (purpose : Option Purpose) →
     → references_in config op ≡ references_read config.base op.content
 unfolding references_in
 named_in config op purpose kind is = ap (references_by config op) (sym kind ∙ ap (option_map kind_for) is)
+
+-- where some are, they are these
+pub said : {X : Type 0} (o : Option X) {read : Option X} → o ≡ read → IfSome o (λ x. read ≡ Some x)
+said None e = tt
+said (Some x) e = sym e

@@ -11,6 +11,14 @@ use Rattle.dep_staging.specs.declared.running.RunningHash.{RunningHash}
 use Rattle.dep_staging.specs.declared.running.RunningHashes.{RunningHashes}
 
 module _ (s : State) where
+  -- whether all of it was hashed is nothing that has to be so
+  pub marked : (run : RunningHash) (is_whole : Bool) → IsRunning s run → IsRunning s (record run { is_whole = is_whole })
+  marked run is_whole (inl none) = inl (record { segments = none.segments; blocks = none.blocks; holds = none.holds })
+  marked run is_whole (inr is) = inr (record {
+    given = is.given;
+    hashed = λ it there. let h = is.hashed it there in record { holds = h.holds; whole = h.whole; begun = h.begun };
+  })
+
   -- it is of the upload of this number
   abbrev pub IsUnder : ℕ × RunningHash → Type 0
   IsUnder kept = IsRunning s kept.1 × (kept.1.upload ≡ kept.0)

@@ -51,18 +51,19 @@ fn hash_blocks<T: Statements>(
     Ok(0)
 }
 
-// The same, and keeps how far it was hashed, whatever is returned.
+// The same of the upload of this row, and keeps how far it was hashed, whatever is returned.
 fn hash_on<T: Statements>(
     tx: &mut T,
     running: &mut RunningHashes,
-    upload: u64,
+    row: &UploadColumns,
     most: u64,
 ) -> Result<u64, StoreFault>
     ensures does { MayReadOver T.lenders T.state tx.old tx.new result
         (λ s. IsSound s → AreRunning s running.old → AreRunning s running.new) }
 {
-    let mut run = running.take(upload);
+    let mut run = running.take(row.upload);
     let hashed = hash_blocks(tx, &mut run, most);
+    run.is_whole = run.segments == row.count;
     running.put(run);
     hashed
 }
@@ -111,8 +112,8 @@ pub fn hash_upload<T: Statements>(
 /// Hashes at most so many blocks of an upload, and keeps how far it was hashed, whatever is returned:
 /// how many of these blocks weren't needed to hash all of it, none where more may be left. It is
 /// `None` where the upload can't be hashed whole: it isn't there, or lacks a segment, or there is no
-/// memory to keep how far it was hashed. No row of a segment is read, and of an upload that was
-/// hashed whole its own row alone. A number of 2^63 or more is a fault of the store.
+/// memory to keep how far it was hashed. No row of a segment is read, and nothing of an upload that
+/// a call of this one hashed whole. A number of 2^63 or more is a fault of the store.
 pub fn hash_some<T: Statements>(
     tx: &mut T,
     running: &mut RunningHashes,
@@ -122,13 +123,13 @@ pub fn hash_some<T: Statements>(
     ensures does { MayReadOver T.lenders T.state tx.old tx.new result
         (λ s. IsSound s → AreRunning s running.old → AreRunning s running.new) }
 {
+    if running.was_whole(upload) {
+        return Ok(Some(most));
+    }
     let Some(row) = find_upload(tx, upload)? else {
         return Ok(None);
     };
-    if running.is_hashed_whole(upload, row.count) {
-        return Ok(Some(most));
-    }
-    let left = hash_on(tx, running, upload, most)?;
+    let left = hash_on(tx, running, &row, most)?;
     Ok(left_of(running, &row, left))
 }
 

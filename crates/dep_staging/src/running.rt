@@ -23,6 +23,8 @@ pub struct RunningHash {
     pub(crate) segments: u64,
     /// How many blocks of the next one were.
     pub(crate) blocks: u64,
+    /// Whether its row was seen to have no more segments.
+    pub(crate) is_whole: bool,
 }
 
 impl RunningHash {
@@ -36,6 +38,7 @@ impl RunningHash {
             hasher: Hasher::new(),
             segments: 0,
             blocks: 0,
+            is_whole: false,
         }
     }
 
@@ -109,6 +112,14 @@ impl RunningHashes {
     pub(crate) fn is_kept(&self, upload: u64) -> bool {
         match &self.kept {
             Some(kept) => kept.contains(&upload),
+            None => false,
+        }
+    }
+
+    /// Whether all of the upload was hashed, by its row as that was seen.
+    pub(crate) fn was_whole(&self, upload: u64) -> bool {
+        match &self.kept {
+            Some(kept) => matches!(kept.peek(&upload), Some(run) if run.is_whole),
             None => false,
         }
     }

@@ -1,7 +1,8 @@
 use Rattle.std.proofs.Common.{◌∙◌, ap, sym}
 use Rattle.dep_tables.proofs.Chains.{may_err, may_ok, may_put, may_read, may_then}
 use Rattle.dep_views.proofs.Chains.{over_behind}
-use Rattle.dep_requests.proofs.LookingUp.{named_in}
+use Rattle.dep_operations.specs.declared.view.Touched.{Touched}
+use Rattle.dep_requests.proofs.LookingUp.{named_in, said}
 use Rattle.dep_requests.proofs.performing.hash_for.Goals as goal
 
 pub returns : goal.returns
@@ -19,6 +20,13 @@ pub returns-in_err-loaded : goal.returns-in_err-loaded
 returns-in_err-loaded g c = record {
   does = record {
     map = λ is_open clean ours s are sound ahead. record { hashes = ahead.hashes; texts = ahead.texts };
-    keeps = may_err c.from_residual.ensures.0 (may_read c.in_err-loaded.ensures.map.keeps);
+    keeps = may_err c.from_residual-in_err-loaded.ensures.0 (may_read c.in_err-loaded.ensures.map.keeps);
   };
 }
+
+pub give_back-requires : goal.give_back-requires
+give_back-requires g c =
+    let op = c.args.asked.operation.now in
+    let config = c.args.asked.config.now in
+    let named = named_in config op c.content_purpose-purpose.result c.content_purpose-purpose.ensures (sym c.in-Some-References.is) in
+    said c.in_ok-loaded.loaded.view.references (c.in_ok-loaded.ensures.references ∙ ap (λ (t : Touched). t.references) c.in_ok-touched.ensures.ok ∙ named)

@@ -10,9 +10,4 @@ returns-in-Some g c = record {
 }
 
 pub returns-in-None : goal.returns-in-None
-returns-in-None g c = record {
-  does = record {
-    map = λ is_open clean ours s are sound ahead. record { hashes = c.hash_for.ensures.does.map is_open clean ours s are sound ahead.hashes; texts = ahead.texts };
-    keeps = c.hash_for.ensures.does.keeps;
-  };
-}
+returns-in-None g c = record { does = c.hash_for.ensures.does }

@@ -1,4 +1,4 @@
-use Rattle.dep_tables.proofs.Chains.{may_err, may_ok, may_read, may_then}
+use Rattle.dep_tables.proofs.Chains.{may_err, may_ok, may_put, may_read, may_then}
 use Rattle.dep_files.proofs.Behind.{behind}
 use Rattle.dep_staging.proofs.hashing.hash_some.Goals as goal
 
@@ -10,11 +10,11 @@ returns-in_default g c = record {
   };
 }
 
-pub returns-then-is_hashed_whole : goal.returns-then-is_hashed_whole
-returns-then-is_hashed_whole g c = record {
+pub returns-then-was_whole : goal.returns-then-was_whole
+returns-then-was_whole g c = record {
   does = record {
     map = λ is_open clean ours s are sound running. running;
-    keeps = may_ok (may_read c.in_ok-row.ensures.does.keeps);
+    keeps = may_put g.T.Statements.lenders g.T.Statements.state c.args.tx.now _;
   };
 }
 
