@@ -29,27 +29,3 @@ returns-in_err-next-clause-wanted c =
 
 pub returns-in_err-next-clause-kept : goal.returns-in_err-next-clause-kept
 returns-in_err-next-clause-kept c = kept_further c.args.content.now c.loop-used.content c.step.new.content c.loop-used.invariant.kept c.in_err-next.ensures.kept
-
-pub returns-else-not-is_settled-clause-stands : goal.returns-else-not-is_settled-clause-stands
-returns-else-not-is_settled-clause-stands c = c.loop-used.invariant.stands
-
-pub returns-else-not-is_settled-clause-within : goal.returns-else-not-is_settled-clause-within
-returns-else-not-is_settled-clause-within c = c.loop-used.invariant.within
-
-pub returns-else-not-is_settled-clause-settled : goal.returns-else-not-is_settled-clause-settled
-returns-else-not-is_settled-clause-settled c = c.loop-used.invariant.settled
-
-pub returns-else-not-is_settled-clause-kept : goal.returns-else-not-is_settled-clause-kept
-returns-else-not-is_settled-clause-kept c = c.loop-used.invariant.kept
-
-pub returns-after-loop-used-clause-stands : goal.returns-after-loop-used-clause-stands
-returns-after-loop-used-clause-stands c = c.loop-used.invariant.stands
-
-pub returns-after-loop-used-clause-within : goal.returns-after-loop-used-clause-within
-returns-after-loop-used-clause-within c = c.loop-used.invariant.within
-
-pub returns-after-loop-used-clause-settled : goal.returns-after-loop-used-clause-settled
-returns-after-loop-used-clause-settled c = c.loop-used.invariant.settled
-
-pub returns-after-loop-used-clause-kept : goal.returns-after-loop-used-clause-kept
-returns-after-loop-used-clause-kept c = c.loop-used.invariant.kept
