@@ -124,31 +124,33 @@ bag_text = search rules
 pub whole_front : (n w q : List ℕ) → at_object n (w ++ q) ≡ at_object n w ++ (q ++ [])
 whole_front n w q = ap (at_object n) (ap (λ z. w ++ z) (sym (append-nil q))) ∙ ap (λ z. codes "/objects/" ++ z) (sym (append_assoc n w (q ++ [])))
 
+-- an object's number, and behind literal bytes what goes to the end of the path
+module _ (n w x text : List ℕ) (token : ℕ) (name : ℕ × ℕ) where
+  abbrev pattern : List ℕ
+  pattern = codes "/objects/" ++ (param_token ∷ 47 ∷ (w ++ (token ∷ [])))
+
+  abbrev path : List ℕ
+  path = at_object n ((47 ∷ w) ++ x)
+
+  walk_two : has_slash n ≡ false → IsText (47 ∷ w) → ((len k at : ℕ) → wild_from (token ∷ []) len k at ≡ (k, at))
+      → wild_stop pattern (10 + length (47 ∷ w)) path (9 + length n + length (47 ∷ w)) ≡ length path
+      → walk pattern text path ((10, 16) ∷ name ∷ []) 0 0 ≡ (part_of text 10 16, n) ∷ (part_of text name.0 name.1, x) ∷ []
+  walk_two h is_text found stop =
+      let at = 9 + length n + length (47 ∷ w) in
+      let long : length path ≡ 9 + (length n + (length (47 ∷ w) + length x)) = object_long n ((47 ∷ w) ++ x) ∙ ap (λ k. 9 + (length n + k)) (length-append (47 ∷ w) x) in
+      let wild : wild_from (drop 10 pattern) (length path) 10 (9 + length n) ≡ (10 + length (47 ∷ w), at) = wild-run (47 ∷ w) (token ∷ []) (length path) 10 (9 + length n) is_text (omega arith) ∙ found _ _ _ in
+      let front_long : length (at_object n (47 ∷ w)) ≡ 9 + (length n + length (47 ∷ w)) = object_long n (47 ∷ w) in
+      object_walk n (w ++ x) (w ++ (token ∷ [])) text (name ∷ []) h
+      ∙ ap (λ z. (part_of text 10 16, z) ∷ walk pattern text path (name ∷ []) 10 (9 + length n)) (object_part_is n ((47 ∷ w) ++ x))
+      ∙ ap (λ z. (part_of text 10 16, n) ∷ z)
+      (walk-name pattern text path name [] 10 (9 + length n) (10 + length (47 ∷ w), at) (length path) wild stop
+      ∙ ap (λ z. (part_of text name.0 name.1, z) ∷ []) (part-is path (at_object n (47 ∷ w)) x [] at (length path) (whole_front n (47 ∷ w) x) (omega arith) (omega arith)))
+
 pub walk-file : (n f : List ℕ) → has_slash n ≡ false → walk (pattern_of File) (text_of File) (at_object n (codes "/files/" ++ f)) (name_spans File) 0 0 ≡ (codes "object", n) ∷ (codes "file", f) ∷ []
-walk-file n f h =
-    let path = at_object n (codes "/files/" ++ f) in
-    let long : length path ≡ 9 + (length n + (7 + length f)) = object_long n (codes "/files/" ++ f) ∙ ap (λ k. 9 + (length n + k)) (length-append (codes "/files/") f) in
-    let w : wild_from (drop 10 (pattern_of File)) (length path) 10 (9 + length n) ≡ (17, 9 + length n + 7) = wild-run (codes "/files/") (param_token ∷ []) (length path) 10 (9 + length n) files_text (omega arith) in
-    let front : at_object n (codes "/files/" ++ f) ≡ at_object n (codes "/files/") ++ (f ++ []) = whole_front n (codes "/files/") f in
-    let front_long : length (at_object n (codes "/files/")) ≡ 9 + (length n + 7) = object_long n (codes "/files/") in
-    object_walk n (codes "files/" ++ f) (codes "files/" ++ (param_token ∷ [])) (text_of File) ((25, 29) ∷ []) h
-    ∙ ap (λ z. (codes "object", z) ∷ walk (pattern_of File) (text_of File) path ((25, 29) ∷ []) 10 (9 + length n)) (object_part_is n (codes "/files/" ++ f))
-    ∙ ap (λ z. (codes "object", n) ∷ z)
-    (walk-name (pattern_of File) (text_of File) path (25, 29) [] 10 (9 + length n) (17, 9 + length n + 7) (length path) w refl
-    ∙ ap (λ z. (codes "file", z) ∷ []) (part-is path (at_object n (codes "/files/")) f [] (9 + length n + 7) (length path) front (omega arith) (omega arith)))
+walk-file n f h = walk_two n (codes "files/") f (text_of File) param_token (25, 29) h files_text (λ len k at. refl) refl
 
 pub walk-path : (n q : List ℕ) → has_slash n ≡ false → walk (pattern_of BagFile) (text_of BagFile) (at_object n (codes "/bag/" ++ q)) (name_spans BagFile) 0 0 ≡ (codes "object", n) ∷ (codes "path", q) ∷ []
-walk-path n q h =
-    let path = at_object n (codes "/bag/" ++ q) in
-    let long : length path ≡ 9 + (length n + (5 + length q)) = object_long n (codes "/bag/" ++ q) ∙ ap (λ k. 9 + (length n + k)) (length-append (codes "/bag/") q) in
-    let w : wild_from (drop 10 (pattern_of BagFile)) (length path) 10 (9 + length n) ≡ (15, 9 + length n + 5) = wild-run (codes "/bag/") (catch_all_token ∷ []) (length path) 10 (9 + length n) bag_text (omega arith) in
-    let front : at_object n (codes "/bag/" ++ q) ≡ at_object n (codes "/bag/") ++ (q ++ []) = whole_front n (codes "/bag/") q in
-    let front_long : length (at_object n (codes "/bag/")) ≡ 9 + (length n + 5) = object_long n (codes "/bag/") in
-    object_walk n (codes "bag/" ++ q) (codes "bag/" ++ (catch_all_token ∷ [])) (text_of BagFile) ((24, 28) ∷ []) h
-    ∙ ap (λ z. (codes "object", z) ∷ walk (pattern_of BagFile) (text_of BagFile) path ((24, 28) ∷ []) 10 (9 + length n)) (object_part_is n (codes "/bag/" ++ q))
-    ∙ ap (λ z. (codes "object", n) ∷ z)
-    (walk-name (pattern_of BagFile) (text_of BagFile) path (24, 28) [] 10 (9 + length n) (15, 9 + length n + 5) (length path) w refl
-    ∙ ap (λ z. (codes "path", z) ∷ []) (part-is path (at_object n (codes "/bag/")) q [] (9 + length n + 5) (length path) front (omega arith) (omega arith)))
+walk-path n q h = walk_two n (codes "bag/") q (text_of BagFile) catch_all_token (24, 28) h bag_text (λ len k at. refl) refl
 
 -- a part of a text between bytes that are ASCII is text
 after_front : (w n : List ℕ) (i : ℕ) → length w ≡ i + 1 → get_or w i 0 < 128 → get_or (w ++ n) i 0 ≡ get_or w i 0 → IsUtf8 (w ++ n) → IsUtf8 n
