@@ -230,6 +230,22 @@ pub within_is : (n part text : List ℕ) → has_slash n ≡ false → segments 
 within_is n part text h e =
     ap resource_of (object_segments n (part ++ 47 ∷ text) h) ∙ ap (λ s. resource_of ([] ∷ codes "objects" ∷ n ∷ s)) e ∙ below_part n part text
 
+-- a part of an object, by its name
+reads_part : (page : Page) (path n part : List ℕ) → path ≡ at_object n (47 ∷ part) → has_slash n ≡ false → segments part ≡ part ∷ [] → walk_of page (at_object n (47 ∷ part)) ≡ (codes "object", n) ∷ []
+    → resource_by page ((codes "object", n) ∷ []) ≡ option_and_then (λ k. object_part k part) (number_in n) → IsUtf8 path → Reads page path (walk_of page path)
+reads_part page path n part is slash cut walks resource u =
+    let text = before_slash n part (object_rest n (47 ∷ part) (subst IsUtf8 is u)) in
+    from_parts page path (at_object n (47 ∷ part)) ((codes "object", n) ∷ []) is walks ((object_name, text, tt), resource ∙ sym (part_is n part slash cut))
+
+-- what stands within a part of an object, by its name or its path
+reads_within : (page : Page) (path n part last name : List ℕ) → IsUtf8 name → path ≡ at_object n (47 ∷ (part ++ 47 ∷ last)) → has_slash n ≡ false → segments (part ++ 47 ∷ last) ≡ part ∷ segments last
+    → walk_of page (at_object n (47 ∷ (part ++ 47 ∷ last))) ≡ (codes "object", n) ∷ (name, last) ∷ []
+    → resource_by page ((codes "object", n) ∷ (name, last) ∷ []) ≡ option_and_then (λ k. within_part k part last) (number_in n) → IsUtf8 path → Reads page path (walk_of page path)
+reads_within page path n part last name named is slash cut walks resource u =
+    let back = object_rest n (47 ∷ (part ++ 47 ∷ last)) (subst IsUtf8 is u) in
+    from_parts page path (at_object n (47 ∷ (part ++ 47 ∷ last))) ((codes "object", n) ∷ (name, last) ∷ []) is walks
+    ((object_name, before_slash n (part ++ 47 ∷ last) back, (named, rest_text n (47 ∷ part) last back, tt)), resource ∙ sym (within_is n part last slash cut))
+
 pub reads : (page : Page) (path : List ℕ) → HasPageForm page path → IsUtf8 path → Reads page path (walk_of page path)
 reads Service path f u = from_parts Service path (codes "/service") [] f refl (tt, refl)
 reads Staging path f u = from_parts Staging path (codes "/staging") [] f refl (tt, refl)
@@ -246,36 +262,13 @@ reads Object path f u =
     from_parts Object path (at_object n []) ((codes "object", n) ∷ []) f.1 (walk-object n)
     ((object_name, text, tt), then-then (number_in n) _ (numbered (codes "objects")) (λ k. refl) ∙ sym (object_is n f.2.0))
 reads Metadata path f u =
-    let n = f.0 in
-    let text : IsUtf8 n = before_slash n (codes "metadata") (object_rest n (codes "/metadata") (subst IsUtf8 f.1 u)) in
-    from_parts Metadata path (at_object n (codes "/metadata")) ((codes "object", n) ∷ []) f.1 (walk-metadata n f.2.0)
-    ((object_name, text, tt), then-then (number_in n) _ (λ k. object_part k (codes "metadata")) (λ k. refl) ∙ sym (part_is n (codes "metadata") f.2.0 refl))
-reads FileSet path f u =
-    let n = f.0 in
-    let text : IsUtf8 n = before_slash n (codes "files") (object_rest n (codes "/files") (subst IsUtf8 f.1 u)) in
-    from_parts FileSet path (at_object n (codes "/files")) ((codes "object", n) ∷ []) f.1 (walk-files n f.2.0)
-    ((object_name, text, tt), then-then (number_in n) _ (λ k. object_part k (codes "files")) (λ k. refl) ∙ sym (part_is n (codes "files") f.2.0 refl))
-reads BagList path f u =
-    let n = f.0 in
-    let text : IsUtf8 n = before_slash n (codes "bag") (object_rest n (codes "/bag") (subst IsUtf8 f.1 u)) in
-    from_parts BagList path (at_object n (codes "/bag")) ((codes "object", n) ∷ []) f.1 (walk-bag n f.2.0)
-    ((object_name, text, tt), then-then (number_in n) _ (λ k. object_part k (codes "bag")) (λ k. refl) ∙ sym (part_is n (codes "bag") f.2.0 refl))
+    reads_part Metadata path f.0 (codes "metadata") f.1 f.2.0 refl (walk-metadata f.0 f.2.0) (then-then (number_in f.0) _ (λ k. object_part k (codes "metadata")) (λ k. refl)) u
+reads FileSet path f u = reads_part FileSet path f.0 (codes "files") f.1 f.2.0 refl (walk-files f.0 f.2.0) (then-then (number_in f.0) _ (λ k. object_part k (codes "files")) (λ k. refl)) u
+reads BagList path f u = reads_part BagList path f.0 (codes "bag") f.1 f.2.0 refl (walk-bag f.0 f.2.0) (then-then (number_in f.0) _ (λ k. object_part k (codes "bag")) (λ k. refl)) u
 reads File path f u =
-    let n = f.0 in
-    let q = f.1 in
-    let back : IsUtf8 (n ++ (codes "/files/" ++ q)) = object_rest n (codes "/files/" ++ q) (subst IsUtf8 f.2 u) in
-    let text : IsUtf8 n = before_slash n (codes "files/" ++ q) back in
-    let last : IsUtf8 q = rest_text n (codes "/files") q back in
-    from_parts File path (at_object n (codes "/files/" ++ q)) ((codes "object", n) ∷ (codes "file", q) ∷ []) f.2 (walk-file n q f.3.0)
-    ((object_name, text, (file_name, last, tt)), then-then (number_in n) _ (λ k. within_part k (codes "files") q) (λ k. refl) ∙ sym (within_is n (codes "files") q f.3.0 refl))
+    reads_within File path f.0 (codes "files") f.1 (codes "file") file_name f.2 f.3.0 refl (walk-file f.0 f.1 f.3.0) (then-then (number_in f.0) _ (λ k. within_part k (codes "files") f.1) (λ k. refl)) u
 reads BagFile path f u =
-    let n = f.0 in
-    let q = f.1 in
-    let back : IsUtf8 (n ++ (codes "/bag/" ++ q)) = object_rest n (codes "/bag/" ++ q) (subst IsUtf8 f.2 u) in
-    let text : IsUtf8 n = before_slash n (codes "bag/" ++ q) back in
-    let last : IsUtf8 q = rest_text n (codes "/bag") q back in
-    from_parts BagFile path (at_object n (codes "/bag/" ++ q)) ((codes "object", n) ∷ (codes "path", q) ∷ []) f.2 (walk-path n q f.3.0)
-    ((object_name, text, (path_name, last, tt)), then-then (number_in n) _ (λ k. within_part k (codes "bag") q) (λ k. refl) ∙ sym (within_is n (codes "bag") q f.3.0 refl))
+    reads_within BagFile path f.0 (codes "bag") f.1 (codes "path") path_name f.2 f.3.0 refl (walk-path f.0 f.1 f.3.0) (then-then (number_in f.0) _ (λ k. within_part k (codes "bag") f.1) (λ k. refl)) u
 
 pub is_text : (l : List ℕ) → ((i : ℕ) → get_or l i 0 < 256) → IsText l
 is_text [] h = tt
