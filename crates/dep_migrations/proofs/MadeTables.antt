@@ -2,7 +2,6 @@
 use Rattle.std.proofs.Common.{◌≡◌, ℕ, Bool, true, false, ◌+◌, ◌<◌, ◌≤◌, zero, suc, List, [], ◌∷◌, length, map, take, get_or, IsTrue, arith, if◌then◌else◌, Option, None, Some, Ok, Err, codes, refl, sym, ap, subst, ◌∙◌}
 use Rattle.std.proofs.lemmas.List.{take_more, get_or-map, length-map}
 use Rattle.std.specs.Option.{option_or}
-use Rattle.std.specs.List.{AllByRecursion}
 use Rattle.std.specs.Prelude.{is_some}
 use Rattle.sqlite_tied.specs.Compute.{everything}
 use Rattle.sqlite.specs.Schema.{Schema}
@@ -67,9 +66,8 @@ only_makes text _ listed makes _ _ _ _ c h = absurd (cc)
 
 -- the text makes this table, wherever nothing is in its way
 record MakesTable (text : List ℕ) (table : Table) : Type 0 where
-  name : List ℕ
-  -- it goes by what the schema has of the name
-  by : (schema : Schema) → understood schema text ≡ understood_by (taken schema name) (first text) (compiled listing_schema text)
+  -- it goes by what the schema has of the table's name
+  by : (schema : Schema) → understood schema text ≡ understood_by (taken schema table.name) (first text) (compiled listing_schema text)
   makes : Makes text (first text)
   defined : table_defined_by text ≡ Ok (record table { tree = 0 })
   uncounted : table.is_counted ≡ false
@@ -86,53 +84,9 @@ adds_table text table is old new count h =
     making : (c : Compiled) → understood old.now.schema text ≡ Ok c → IsMaking text old
     making c goes =
         let schema = old.now.schema in
-        let name = is.name in
+        let name = table.name in
         subst (IsMakingText text) (sym (is.by schema))
         (only_makes text (first text) (compiled listing_schema text) is.makes (is_attached schema name) (table_named schema name) (view_named schema name) (index_named schema name) c (sym (is.by schema) ∙ goes))
-
-format_made : MakesTable create_format_text format_table
-unfolding understood everything
-format_made = record { name = codes "format"; by = λ schema. refl; makes = refl; defined = refl; uncounted = refl }
-
-state_made : MakesTable create_state_text state_table
-unfolding understood everything
-state_made = record { name = codes "state"; by = λ schema. refl; makes = refl; defined = refl; uncounted = refl }
-
-objects_made : MakesTable create_objects_text objects_table
-unfolding understood everything
-objects_made = record { name = codes "objects"; by = λ schema. refl; makes = refl; defined = refl; uncounted = refl }
-
-metadata_made : MakesTable create_metadata_text metadata_table
-unfolding understood everything
-metadata_made = record { name = codes "metadata"; by = λ schema. refl; makes = refl; defined = refl; uncounted = refl }
-
-files_made : MakesTable create_files_text files_table
-unfolding understood everything
-files_made = record { name = codes "files"; by = λ schema. refl; makes = refl; defined = refl; uncounted = refl }
-
-uploads_made : MakesTable create_uploads_text uploads_table
-unfolding understood everything
-uploads_made = record { name = codes "uploads"; by = λ schema. refl; makes = refl; defined = refl; uncounted = refl }
-
-segments_made : MakesTable create_segments_text segments_table
-unfolding understood everything
-segments_made = record { name = codes "segments"; by = λ schema. refl; makes = refl; defined = refl; uncounted = refl }
-
-timed_out_made : MakesTable create_timed_out_text timed_out_table
-unfolding understood everything
-timed_out_made = record { name = codes "timed_out"; by = λ schema. refl; makes = refl; defined = refl; uncounted = refl }
-
-blocks_made : MakesTable create_blocks_text blocks_table
-unfolding understood everything
-blocks_made = record { name = codes "blocks"; by = λ schema. refl; makes = refl; defined = refl; uncounted = refl }
-
-sha512s_made : MakesTable create_sha512s_text sha512s_table
-unfolding understood everything
-sha512s_made = record { name = codes "sha512s"; by = λ schema. refl; makes = refl; defined = refl; uncounted = refl }
-
--- the text of the tenth table makes it, wherever nothing is in its way
-pub adds_sha512s : (old new : State) (count : ℕ) → ExecutesInside 0 create_sha512s_text [] old new (Ok count) → Adds sha512s_table old.now new.now
-adds_sha512s old new count h = adds_table create_sha512s_text sha512s_table sha512s_made old new count h
 
 -- ---- all of them, one after another
 
@@ -144,17 +98,34 @@ all_makings =
     (create_format_text, format_table) ∷ (create_state_text, state_table) ∷ (create_objects_text, objects_table) ∷ (create_metadata_text, metadata_table) ∷ (create_files_text, files_table)
     ∷ (create_uploads_text, uploads_table) ∷ (create_segments_text, segments_table) ∷ (create_timed_out_text, timed_out_table) ∷ (create_blocks_text, blocks_table) ∷ (create_sha512s_text, sha512s_table) ∷ []
 
-abbrev MakeEach : List Making → Type 0
-MakeEach = AllByRecursion (λ (m : Making). MakesTable m.0 m.1)
+-- each text makes its table, said of all of them at once
+record MakeEach (makings : List Making) : Type 0 where
+  by : (schema : Schema)
+      → map (λ (m : Making). understood schema m.0) makings ≡ map (λ (m : Making). understood_by (taken schema m.1.name) (first m.0) (compiled listing_schema m.0)) makings
+  makes : map (λ (m : Making). and_then (first m.0) (λ p. Ok (text_of m.0 (making_of p)))) makings ≡ map (λ (m : Making). Ok m.0) makings
+  defined : map (λ (m : Making). table_defined_by m.0) makings ≡ map (λ (m : Making). Ok (record m.1 { tree = 0 })) makings
+  uncounted : map (λ (m : Making). m.1.is_counted) makings ≡ map (λ (m : Making). false) makings
 
 each_makes : MakeEach all_makings
-each_makes = (format_made, (state_made, (objects_made, (metadata_made, (files_made, (uploads_made, (segments_made, (timed_out_made, (blocks_made, (sha512s_made, tt))))))))))
+unfolding understood everything
+each_makes = record { by = λ schema. refl; makes = refl; defined = refl; uncounted = refl }
+
+same_head : {A : Type 0} {x y : A} {xs ys : List A} → x ∷ xs ≡ y ∷ ys → x ≡ y
+same_head e = cc e
+
+same_tail : {A : Type 0} {x y : A} {xs ys : List A} → x ∷ xs ≡ y ∷ ys → xs ≡ ys
+same_tail e = cc e
 
 makes_at : (makings : List Making) → MakeEach makings → (n : ℕ) (text : List ℕ) (table : Table) → n < length makings
     → MakesTable (get_or (map (λ (m : Making). m.0) makings) n text) (get_or (map (λ (m : Making). m.1) makings) n table)
 makes_at [] each n text table below = absurd (omega arith)
-makes_at (m ∷ makings) each zero _ _ below = each.0
-makes_at (m ∷ makings) each (suc n) text table below = makes_at makings each.1 n text table (omega arith)
+makes_at (m ∷ makings) each zero _ _ below = record { by = λ schema. same_head (each.by schema); makes = same_head each.makes; defined = same_head each.defined; uncounted = same_head each.uncounted }
+makes_at (m ∷ makings) each (suc n) text table below =
+    makes_at makings (record { by = λ schema. same_tail (each.by schema); makes = same_tail each.makes; defined = same_tail each.defined; uncounted = same_tail each.uncounted }) n text table (omega arith)
+
+-- the text of the tenth table makes it, wherever nothing is in its way
+pub adds_sha512s : (old new : State) → (count : ℕ) × ExecutesInside 0 create_sha512s_text [] old new (Ok count) → Adds sha512s_table old.now new.now
+adds_sha512s old new ran = adds_table create_sha512s_text sha512s_table (makes_at all_makings each_makes 9 [] format_table (omega arith)) old new ran.0 ran.1
 
 -- the tables of the first of these texts are made, in a transaction that goes on
 pub record AreMadeTo {T L : Type 0} (lenders : T → L) (state : T → State) (texts : List (Bor (List ℕ))) (n : ℕ) (old new : T) : Type 0 where

@@ -1,8 +1,8 @@
-use Rattle.std.proofs.Common.{inl, inr, ◌∙◌}
-use Rattle.dep_tables.proofs.Chains.{clean_before, stays_then}
-use Rattle.dep_tables.proofs.Results.{if_err, ok_then}
+use Rattle.std.proofs.Common.{inl, ◌∙◌}
+use Rattle.dep_tables.proofs.Chains.{clean_before}
+use Rattle.dep_tables.proofs.Results.{ok_then}
 use Rattle.dep_migrations.proofs.BesideRows.{puts_format, puts_state}
-use Rattle.dep_migrations.proofs.Causes.{works_failed}
+use Rattle.dep_migrations.proofs.Causes.{works_behind, works_failed}
 use Rattle.dep_migrations.proofs.making.add_rows.Goals as goal
 
 pub returns-clause-beside : goal.returns-clause-beside
@@ -23,13 +23,4 @@ returns-in_err-run-clause-works g c =
     (λ clean inside. inl (c.in_err-run.ensures.cause clean inside))
 
 pub returns-clause-works : goal.returns-clause-works
-returns-clause-works g c =
-    let first = c.in_ok-run.ensures in
-    let last = c.run-2.ensures in
-    record {
-      cause = λ clean inside.
-          let before = clean_before last.keeps.stays clean in
-          if_err c.run-2.result (last.cause clean (first.keeps.stays.inside before inside))
-          (λ fault failed. inr (record { at = c.run.new.self; since = first.keeps.stays.survives; by = (first.runs before inside, failed) }));
-      stays = stays_then first.keeps.stays last.keeps.stays;
-    }
+returns-clause-works g c = works_behind _ _ c.in_ok-run.ensures.keeps.stays c.run-2.ensures.keeps.stays c.in_ok-run.ensures.runs c.run-2.ensures.cause

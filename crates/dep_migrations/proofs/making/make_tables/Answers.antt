@@ -1,5 +1,4 @@
 use Rattle.std.proofs.Common.{inl, inr}
-use Rattle.std.proofs.lemmas.Result.{IfOk-from_err}
 use Rattle.dep_tables.proofs.Chains.{clean_before, stays_then}
 use Rattle.dep_migrations.proofs.BesideRows.{gains, free_before, first_seen}
 use Rattle.dep_tables.proofs.Results.{if_err}
@@ -47,26 +46,16 @@ returns-clause-works g c = record {
   stays = stays_then (stays_then c.in_ok-create_tables.ensures.works.stays c.in_ok-create_indexes.ensures.works.stays) c.add_rows.ensures.works.stays;
 }
 
--- where one was not made, nothing is said of an Ok
-pub returns-in_err-create_tables : goal.returns-in_err-create_tables
-returns-in_err-create_tables g c =
-    let is_err = c.from_residual.ensures.0 in
-    record {
-      ok = λ clean inside empty. IfOk-from_err c.from_residual.result _ is_err;
-      gains = λ clean inside. IfOk-from_err c.from_residual.result _ is_err;
-      works = works_failed c.from_residual.result c.in_err-create_tables.field-0.0 is_err c.from_residual.ensures.1 c.in_err-create_tables.ensures.works.stays
-          (λ clean inside. inl (c.in_err-create_tables.ensures.works.cause clean inside));
-    }
+pub returns-in_err-create_tables-clause-works : goal.returns-in_err-create_tables-clause-works
+returns-in_err-create_tables-clause-works g c =
+    works_failed c.from_residual.result c.in_err-create_tables.field-0.0 c.from_residual.ensures.0 c.from_residual.ensures.1 c.in_err-create_tables.ensures.works.stays
+    (λ clean inside. inl (c.in_err-create_tables.ensures.works.cause clean inside))
 
-pub returns-in_err-create_indexes : goal.returns-in_err-create_indexes
-returns-in_err-create_indexes g c =
+pub returns-in_err-create_indexes-clause-works : goal.returns-in_err-create_indexes-clause-works
+returns-in_err-create_indexes-clause-works g c =
     let made = c.in_ok-create_tables.ensures in
     let failed = c.in_err-create_indexes.ensures in
-    let is_err = c.from_residual-in_err-create_indexes.ensures.0 in
-    record {
-      ok = λ clean inside empty. IfOk-from_err c.from_residual-in_err-create_indexes.result _ is_err;
-      gains = λ clean inside. IfOk-from_err c.from_residual-in_err-create_indexes.result _ is_err;
-      works = works_failed c.from_residual-in_err-create_indexes.result c.in_err-create_indexes.field-0.0 is_err c.from_residual-in_err-create_indexes.ensures.1 (stays_then made.works.stays failed.works.stays) (λ clean inside.
-          let before = clean_before failed.works.stays clean in
-          inr (c.create_tables.new.tx, made.adds before inside, made.works.stays.survives, inl (failed.works.cause clean (made.works.stays.inside before inside))));
-    }
+    let passed = c.from_residual-in_err-create_indexes in
+    works_failed passed.result c.in_err-create_indexes.field-0.0 passed.ensures.0 passed.ensures.1 (stays_then made.works.stays failed.works.stays) (λ clean inside.
+    let before = clean_before failed.works.stays clean in
+    inr (c.create_tables.new.tx, made.adds before inside, made.works.stays.survives, inl (failed.works.cause clean (made.works.stays.inside before inside))))

@@ -1,24 +1,21 @@
 use Rattle.std.proofs.Common.{◌<◌, length, arith}
 use Rattle.std.proofs.lemmas.List.{take_all}
 use Rattle.dep_tables.proofs.Chains.{clean_before, stays_then, stays_ok}
-use Rattle.dep_tables.specs.Tables.{tables_of}
 use Rattle.dep_migrations.proofs.Causes.{works_failed}
 use Rattle.dep_migrations.proofs.Upgraded.{one_more_value, put_fails, reported_fault}
 use Rattle.dep_migrations.proofs.upgrading.insert_values.Goals as goal
 
 pub values-preserved : goal.values-preserved
 values-preserved g c =
-    let old = g.T.Statements.state c.args.tx.now in
-    let mid = g.T.Statements.state c.values.tx in
-    let new = g.T.Statements.state c.insert_sha512.new.tx in
     let inv = c.values.invariant in
+    let put = c.in_ok-insert_sha512.ensures.does in
     let within : c.values.value-index < length c.args.values.now = omega arith in (
-      stays_ok (stays_then inv.0 c.in_ok-insert_sha512.ensures.does.keeps.stays),
+      stays_ok (stays_then inv.0 put.keeps.stays),
       λ clean inside ours.
-          let before = clean_before c.insert_sha512.ensures.does.keeps.stays clean in
+          let before = clean_before put.keeps.stays clean in
           let was = inv.1 before inside ours in
-          let leads = c.in_ok-insert_sha512.ensures.does.ok clean (inv.0.inside before inside) was.ours in
-          record { ours = leads.ours; rows = one_more_value (tables_of old) (tables_of mid) (tables_of new) c.args.values.now c.values.value-index _ within was.rows leads.rows },
+          let leads = put.ok clean (inv.0.inside before inside) was.ours in
+          record { ours = leads.ours; rows = one_more_value _ _ _ c.args.values.now c.values.value-index _ within was.rows leads.rows },
     )
 
 pub returns-clause-ok : goal.returns-clause-ok

@@ -1,5 +1,4 @@
 use Rattle.std.proofs.Common.{inl, inr, ap, ◌∙◌}
-use Rattle.std.proofs.lemmas.Result.{IfOk-from_err}
 use Rattle.dep_tables.specs.Edits.{with_our_version}
 use Rattle.dep_tables.proofs.Results.{if_err, if_ok, ok_then}
 use Rattle.dep_tables.proofs.Chains.{clean_before, survived, stays_then}
@@ -39,30 +38,20 @@ returns-clause-works g c = record {
   stays = stays_then c.in_ok-extend_schema.ensures.works.stays (stays_then c.in_ok-insert_values.ensures.works.stays c.write_version.ensures.does.keeps.stays);
 }
 
--- where the schema was not extended, or a value not put in, nothing is said of an Ok
-pub returns-in_err-extend_schema : goal.returns-in_err-extend_schema
-returns-in_err-extend_schema g c =
-    let is_err = c.from_residual.ensures.0 in
-    record {
-      ok = λ clean inside older. IfOk-from_err c.from_residual.result _ is_err;
-      free = λ clean inside. IfOk-from_err c.from_residual.result _ is_err;
-      works = works_failed c.from_residual.result c.in_err-extend_schema.field-0.0 is_err c.from_residual.ensures.1 c.in_err-extend_schema.ensures.works.stays
-          (λ clean inside. inl (c.in_err-extend_schema.ensures.works.cause clean inside));
-    }
+pub returns-in_err-extend_schema-clause-works : goal.returns-in_err-extend_schema-clause-works
+returns-in_err-extend_schema-clause-works g c =
+    works_failed c.from_residual.result c.in_err-extend_schema.field-0.0 c.from_residual.ensures.0 c.from_residual.ensures.1 c.in_err-extend_schema.ensures.works.stays
+    (λ clean inside. inl (c.in_err-extend_schema.ensures.works.cause clean inside))
 
-pub returns-in_err-insert_values : goal.returns-in_err-insert_values
-returns-in_err-insert_values g c =
+pub returns-in_err-insert_values-clause-works : goal.returns-in_err-insert_values-clause-works
+returns-in_err-insert_values-clause-works g c =
     let extended = c.in_ok-extend_schema.ensures in
     let failed = c.in_err-insert_values.ensures in
-    let is_err = c.from_residual-in_err-insert_values.ensures.0 in
-    record {
-      ok = λ clean inside older. IfOk-from_err c.from_residual-in_err-insert_values.result _ is_err;
-      free = λ clean inside. IfOk-from_err c.from_residual-in_err-insert_values.result _ is_err;
-      works = works_failed c.from_residual-in_err-insert_values.result c.in_err-insert_values.field-0.0 is_err c.from_residual-in_err-insert_values.ensures.1 (stays_then extended.works.stays failed.works.stays) (λ clean inside.
-          let there = clean_before failed.works.stays clean in
-          inr (
-            extended.free there inside,
-            fails_later g.T.Statements.state c.args.tx.now c.extend_schema.new.tx c.insert_values.new.tx extended.works.stays.survives (FailsToPut c.args.values.now) (FailsToFill c.args.values.now)
-                (λ at now fault by. inl by) _ (failed.works.cause clean (extended.works.stays.inside there inside)),
-          ));
-    }
+    let passed = c.from_residual-in_err-insert_values in
+    works_failed passed.result c.in_err-insert_values.field-0.0 passed.ensures.0 passed.ensures.1 (stays_then extended.works.stays failed.works.stays) (λ clean inside.
+    let there = clean_before failed.works.stays clean in
+    inr (
+      extended.free there inside,
+      fails_later g.T.Statements.state c.args.tx.now c.extend_schema.new.tx c.insert_values.new.tx extended.works.stays.survives (FailsToPut c.args.values.now) (FailsToFill c.args.values.now)
+          (λ at now fault by. inl by) _ (failed.works.cause clean (extended.works.stays.inside there inside)),
+    ))
