@@ -148,8 +148,7 @@ impl<S: Alter> Archive for HashingStore<S> {
                 .prepare(&mut self.ahead, service.config(), operation);
             return hashed.unwrap_or(false);
         }
-        self.ahead.texts.forget();
-        self.ahead.references.forget();
+        self.ahead.forget();
         if !self.is_due {
             return false;
         }

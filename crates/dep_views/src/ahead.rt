@@ -30,4 +30,12 @@ impl WorkAhead {
             references: ReferencesAhead::new(),
         }
     }
+
+    /// Forgets what was read for requests, as none waits for it. What was hashed stays known.
+    pub fn forget(&mut self)
+        ensures { (s : State) → IsAhead s self.old → IsAhead s self.new }
+    {
+        self.texts.forget();
+        self.references.forget();
+    }
 }

@@ -52,18 +52,18 @@ returns-then-not-self-clause-rests g c =
     let store = c.args.self.now.store in
     let d = state g.S.Store store in
     let runs = c.args.self.now.ahead in
-    let later : WorkAhead = record runs { texts = c.forget.new.self } in
+    let later : WorkAhead = c.forget.new.self in
     keeps_each (shown_with_hashes d runs) (shown_with_hashes d later)
     (λ s keeps. leaves_as_was _ s (λ trees h. g.met.S.Store.settled store.store trees keeps.represents.represents.is_open h) keeps.represents)
-    (keeps_hashed d d runs later (λ is_open s represents are. record { hashes = are.hashes; texts = c.forget.ensures s }) (keeps_all (shown_by d)))
+    (keeps_hashed d d runs later (λ is_open s represents are. c.forget.ensures s are) (keeps_all (shown_by d)))
 
 pub returns-then-not-self-clause-commits : goal.returns-then-not-self-clause-commits
 returns-then-not-self-clause-commits g c =
     let d = state g.S.Store c.args.self.now.store in
     let runs = c.args.self.now.ahead in
-    let later : WorkAhead = record runs { texts = c.forget.new.self } in
+    let later : WorkAhead = c.forget.new.self in
     ahead_commits c.args.self.now.log_copy _ (shown_with_hashes d runs) (shown_with_hashes d later) c.count.ensures.counted
-    (keeps_hashed d d runs later (λ is_open s represents are. record { hashes = are.hashes; texts = c.forget.ensures s }) (keeps_all (shown_by d)))
+    (keeps_hashed d d runs later (λ is_open s represents are. c.forget.ensures s are) (keeps_all (shown_by d)))
 
 -- ---- a part was hashed
 
@@ -94,7 +94,7 @@ returns-clause-rests g c =
     let new = state g.S.Store c.hash_ahead.new.self in
     keeps_each (shown_with_hashes old c.args.self.now.ahead) (shown_with_hashes new c.hash_ahead.new.ahead)
     (λ s keeps. leaves_as_was _ s (λ trees h. g.met.S.Store.settled store.store trees keeps.represents.represents.is_open h) keeps.represents)
-    (keeps_hashed old new c.args.self.now.ahead c.hash_ahead.new.ahead (λ is_open s represents are. did.ahead is_open s represents (record { hashes = are.hashes; texts = c.forget.ensures s })) did.rests)
+    (keeps_hashed old new c.args.self.now.ahead c.hash_ahead.new.ahead (λ is_open s represents are. did.ahead is_open s represents (c.forget.ensures s are)) did.rests)
 
 pub returns-clause-commits : goal.returns-clause-commits
 returns-clause-commits g c =
@@ -103,4 +103,4 @@ returns-clause-commits g c =
     let later = c.hash_ahead.new.ahead in
     let old = state g.S.Store c.args.self.now.store in
     let new = state g.S.Store c.hash_ahead.new.self in
-    ahead_commits c.args.self.now.log_copy _ (shown_with_hashes old runs) (shown_with_hashes new later) c.count.ensures.counted (keeps_hashed old new runs later (λ is_open s represents are. did.ahead is_open s represents (record { hashes = are.hashes; texts = c.forget.ensures s })) did.rests)
+    ahead_commits c.args.self.now.log_copy _ (shown_with_hashes old runs) (shown_with_hashes new later) c.count.ensures.counted (keeps_hashed old new runs later (λ is_open s represents are. did.ahead is_open s represents (c.forget.ensures s are)) did.rests)
