@@ -1,4 +1,5 @@
-use Rattle.std.proofs.Common.{◌∙◌, ap, sym}
+use Rattle.std.proofs.Common.{◌≡◌, ◌∙◌, Some, ap, rules}
+use Rattle.dep_decisions.specs.declared.purpose.Purpose.TheVariants.{References}
 use Rattle.dep_tables.proofs.Chains.{may_err, may_ok, may_put, may_read, may_then}
 use Rattle.dep_views.proofs.Chains.{over_behind}
 use Rattle.dep_operations.specs.declared.view.Touched.{Touched}
@@ -28,5 +29,6 @@ pub give_back-requires : goal.give_back-requires
 give_back-requires g c =
     let op = c.args.asked.operation.now in
     let config = c.args.asked.config.now in
-    let named = named_in config op c.content_purpose-purpose.result c.content_purpose-purpose.ensures (sym c.in-Some-References.is) in
+    let is : c.content_purpose-purpose.result ≡ Some References = search rules in
+    let named = named_in config op c.content_purpose-purpose.result c.content_purpose-purpose.ensures is in
     said c.in_ok-loaded.loaded.view.references (c.in_ok-loaded.ensures.references ∙ ap (λ (t : Touched). t.references) c.in_ok-touched.ensures.ok ∙ named)
