@@ -5,9 +5,9 @@
 
 One client does one thing after another; a second one asks for the service document over and over. Each line tells how long the
 act took, how long the other waited at most, and how long it may: 100 ms, and 100 ms for each 16 MiB that the request brings or
-moves. Where the tables or the JSON of the kit take more than that, an act may take so many microseconds for each text or reference
-(EACH). On a machine that is slower than usual (slowness) all that is longer by as much. With words it does only the acts whose
-line has one of them. With --check its status is 1 where another waited longer.
+moves. Where the tables of the kit take more than that, an act may take so many microseconds for each text (EACH). On a machine
+that is slower than usual (slowness) all that is longer by as much. With words it does only the acts whose line has one of them.
+With --check its status is 1 where another waited longer.
 """
 
 import sys
@@ -22,12 +22,12 @@ import time
 
 from depositing import JSON, Client, as_file, by_reference, exchange, first_file
 from hosted import MIB, Host, rest
-from host_waits import MOST, SEGMENT_SIZE, Other, slowness, upload
+from host_waits import MOST, SEGMENT_SIZE, Other, refused, slowness, upload
 
 PATIENCE, CLIENTS, IDLE = 900, 10, 8
 CROWD, CROWD_SECONDS = 900, 5
-# What a text takes at most to be kept and to be deleted, and a reference to be read.
-EACH = {"kept": 20, "deleted": 12, "read": 7}
+# What a text takes at most to be kept and to be deleted.
+EACH = {"kept": 20, "deleted": 12}
 READ = "import sys, urllib.request\nwith urllib.request.urlopen(sys.argv[1]) as it:\n    while it.read(1 << 20): pass"
 # Asks for a path over so many connections, and reads what comes until the time is over.
 READ_BY_MANY = """
@@ -132,6 +132,14 @@ class Acts:
         uploads = {f"{self.host.base}/staging/{10**6 + it}": "attachment; filename=a" for it in range(self.options.references)}
         self.ask(404, "POST", "/service", *by_reference(uploads))
 
+    def send_many(self):
+        with self.client() as client:
+            return [self.host.path_of(upload(client, b"x", 1)) for _ in range(self.options.files)]
+
+    def refer_to_many(self):
+        """A deposit of many uploads, which is refused for a digest of the last one."""
+        self.ask(*refused(self.host, self.many))
+
     def leave_uploads(self):
         """Uploads that are left idle, one of them large, until they have ended but for the tick of the next request."""
         self.restart(staging_max_idle=IDLE)
@@ -190,7 +198,10 @@ class Acts:
         yield f"{CLIENTS} GETs of it at once", 0, None, described, lambda: self.read_at_once(f"{self.described}/metadata")
         yield "one text more", 0, None, described, lambda: self.ask(200, "POST", self.described, '{"dc:subject":""}', METADATA)
         yield "DELETE of its object", texts, "deleted", described, lambda: shown(204, "DELETE", "")
-        yield f"{references:,} references of nothing", references, "read", None, self.refer_to_nothing
+        yield f"{references:,} references of nothing", 0, None, None, self.refer_to_nothing
+        sent = lambda: self.made("many", self.send_many)
+        yield f"by reference {files:,} uploads, another digest (412)", 0, None, sent, self.refer_to_many
+        yield "the same again, of so many (412)", 0, None, sent, self.refer_to_many
         yield f"an object of {files:,} files, one by one", 0, None, None, filled
         yield "GET of that object", 0, None, filled, lambda: self.ask(200, "GET", self.filled)
         yield "DELETE of that object", 0, None, filled, lambda: self.ask(204, "DELETE", self.filled)
