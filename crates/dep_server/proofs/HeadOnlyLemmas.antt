@@ -1,10 +1,11 @@
 -- A HEAD is answered as a GET, without the body.
-use Rattle.std.proofs.Common.{◌≡◌, ℕ, Bool, true, false, ◌||◌, if◌then◌else◌, List, [], ◌∷◌, ◌++◌, length, map, Option, Some, None, codes, refl, sym, ap, subst, ◌∙◌, append_assoc, is_some, find, bytes_eq}
+use Rattle.std.proofs.Common.{◌≡◌, ℕ, Bool, true, false, ◌||◌, if◌then◌else◌, List, [], ◌∷◌, ◌++◌, length, map, Option, Some, None, codes, refl, sym, ap, subst, ◌∙◌, append_assoc, is_some, IsTrue, find, bytes_eq}
 use Rattle.std.specs.Option.{option_map, option_map_or, option_and_then}
 use Rattle.std.specs.List.{list_any}
 use Rattle.std.specs.FinMap as finmap
 use Rattle.std.proofs.lemmas.List.{append-nil}
 use Rattle.dep_types.specs.Maps.{first_of}
+use Rattle.dep_types.specs.Methods.{is_safe}
 use Rattle.dep_types.specs.Numbers.{room_for}
 use Rattle.dep_types.specs.State.{State, Object, File, Upload, file_at, tick}
 use Rattle.dep_types.specs.Rows.{object_view, upload_row}
@@ -27,7 +28,7 @@ use Rattle.dep_decisions.proofs.ReadAlone.{reads_keep}
 use Rattle.dep_answers.specs.Answers.{Answer, ReplyContent, Document, PlainText, StoredContent, bytes_of, document_of, file_reply, stored_of, head_of}
 use Rattle.dep_answers.specs.Bags.{BagEntry, bag_entries, payload_shown, shown_in_bag}
 use Rattle.dep_answers.specs.Replies.{front_text, stored_text, content_at, shown_answer, refused_answer}
-use Rattle.dep_answers.specs.Steps.{Stepped, answered_step, refused_step, accepted_answer, accepted_step, step_by, operation_step}
+use Rattle.dep_answers.specs.Steps.{Stepped, answered_step, refused_step, accepted_answer, accepted_step, is_head, step_by, operation_step}
 use Rattle.dep_router.specs.Targets.{target, to_resource, segments, resource_of, allow_text}
 use Rattle.dep_message.specs.Heads.{closes}
 use Rattle.dep_message.specs.Stream.{Request}
@@ -129,12 +130,18 @@ module _ (config : Config) (s : State) (m : Message) where
   abbrev head : Message
   head = request_by (codes "HEAD") m
 
+  abbrev by_get : Resource → Operation
+  by_get resource = operation_of get (record { resource = resource; method = Get })
+
+  abbrev by_head : Resource → Operation
+  by_head resource = operation_of head (record { resource = resource; method = Head })
+
   turned : (r : Refusal) (allow : Option (List ℕ)) → IsWithoutBody (refused_step s r allow false (closes m.head)) (refused_step s r allow true (closes m.head))
   turned r allow = without_body s (refused_answer s.clock r allow) s.clock (closes m.head) (Document (error_document r s.clock)) refl
 
   -- both are read by these rules
   abbrev rules : Resource → Option Refusal
-  rules resource = first_of (first_of (behalf_rule config (operation_of get (record { resource = resource; method = Get })) ∷ presence_refusal (in_state s) resource ∷ None ∷ []) ∷ None ∷ None ∷ [])
+  rules resource = first_of (first_of (behalf_rule config (by_get resource) ∷ presence_refusal (in_state s) resource ∷ None ∷ []) ∷ None ∷ None ∷ [])
 
   -- the accepted ones, at a state that they leave
   shown : (resource : Resource) (content : ReplyContent) → content_at config s resource ≡ Some content
@@ -142,31 +149,21 @@ module _ (config : Config) (s : State) (m : Message) where
   shown resource content e = without_body s (shown_answer config s resource) s.clock (closes m.head) content e
 
   -- what is accepted leaves the state
-  kept_get : (resource : Resource) (f : accepted_answer config s (operation_of get (record { resource = resource; method = Get })) ≡ shown_answer config s resource)
-      → step_by config s (operation_of get (record { resource = resource; method = Get })) None ≡ answered_step s (shown_answer config s resource) s.clock false (closes m.head)
-  unfolding closes
-  kept_get resource f =
-      let op : Operation = operation_of get (record { resource = resource; method = Get }) in
-      ap (accepted_step config s op) (reads_keep config s op refl) ∙ ap (λ (a : Answer). answered_step s a s.clock false (closes m.head)) f
-
-  kept_head : (resource : Resource) (f : accepted_answer config s (operation_of head (record { resource = resource; method = Head })) ≡ shown_answer config s resource)
-      → step_by config s (operation_of head (record { resource = resource; method = Head })) None ≡ answered_step s (shown_answer config s resource) s.clock true (closes m.head)
-  unfolding closes
-  kept_head resource f =
-      let op : Operation = operation_of head (record { resource = resource; method = Head }) in
-      ap (accepted_step config s op) (reads_keep config s op refl) ∙ ap (λ (a : Answer). answered_step s a s.clock true (closes m.head)) f
+  kept : (op : Operation) → IsTrue (is_safe op.target.method) → accepted_answer config s op ≡ shown_answer config s op.target.resource
+      → step_by config s op None ≡ answered_step s (shown_answer config s op.target.resource) s.clock (is_head op.target.method) op.closes
+  kept op safe f =
+      ap (accepted_step config s op) (reads_keep config s op safe) ∙ ap (λ (a : Answer). answered_step s a s.clock (is_head op.target.method) op.closes) f
 
   by_rules : (resource : Resource) → is_shown resource ≡ true
-      → accepted_answer config s (operation_of get (record { resource = resource; method = Get })) ≡ shown_answer config s resource
-      → accepted_answer config s (operation_of head (record { resource = resource; method = Head })) ≡ shown_answer config s resource
-      → (o : Option Refusal) → rules resource ≡ o
-      → IsWithoutBody (step_by config s (operation_of get (record { resource = resource; method = Get })) o) (step_by config s (operation_of head (record { resource = resource; method = Head })) o)
+      → accepted_answer config s (by_get resource) ≡ shown_answer config s resource → accepted_answer config s (by_head resource) ≡ shown_answer config s resource
+      → (o : Option Refusal) → rules resource ≡ o → IsWithoutBody (step_by config s (by_get resource) o) (step_by config s (by_head resource) o)
   unfolding closes
   by_rules resource h f g (Some r) e = turned r None
   by_rules resource h f g None e =
       let c = shows config s resource h (second_passed _ _ e) in
-      subst (λ (a : Stepped). IsWithoutBody a (step_by config s (operation_of head (record { resource = resource; method = Head })) None)) (sym (kept_get resource f))
-      (subst (λ (b : Stepped). IsWithoutBody (answered_step s (shown_answer config s resource) s.clock false (closes m.head)) b) (sym (kept_head resource g)) (shown resource c.0 c.1))
+      subst (λ (a : Stepped). IsWithoutBody a (step_by config s (by_head resource) None)) (sym (kept (by_get resource) refl f))
+      (subst (λ (b : Stepped). IsWithoutBody (answered_step s (shown_answer config s resource) s.clock false (closes m.head)) b) (sym (kept (by_head resource) refl g))
+      (shown resource c.0 c.1))
 
   by_resource : (r : Option Resource) → IsWithoutBody (routed_step config s get (to_resource (codes "GET") r)) (routed_step config s head (to_resource (codes "HEAD") r))
   unfolding operation_step refusal_by access_refusal behalf_rule presence_rule content_refusal room_rule room_for decision_with accepted_answer closes
