@@ -25,7 +25,8 @@ use Rattle.dep_server.specs.Moves.{Move, Made, Begun, moved, state_by, moves_of}
 use Rattle.dep_server.specs.Requests.{AnyRequest, step_of, ticked, left_by, IsLetThrough, IsAcceptedFor}
 use Rattle.dep_server.specs.Runs.{AnyRun, RequestIn, as_it_came}
 use Rattle.dep_server.specs.Deposited.{IsTaken, deposit_object, deposited_number, StaysUntilTaken, IsDeposit, EntryStaysFrom}
-use Rattle.dep_server.proofs.MovesLead.{over_both, run_leads, moved_sound, moves_sound}
+use Rattle.dep_server.proofs.MovesLead.{over_both, run_leads}
+use Rattle.dep_server.proofs.SoundLemmas.{moved_sound, moves_sound}
 
 module _ (config : Config) (n f : ℕ) (file : File) where
   abbrev StaysFile : State → Type 0

@@ -1,5 +1,6 @@
 mod CalmLemmas
 mod StreamLemmas
+mod StepsKeep
 mod SoundLemmas
 mod RunKeeps
 mod UploadsKept

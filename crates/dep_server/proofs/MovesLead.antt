@@ -1,17 +1,14 @@
 -- The moves of a run lead from its first state to its last.
 use Rattle.std.proofs.Common.{◌≡◌, inl, inr, ℕ, List, [], ◌∷◌, ◌++◌, refl, sym, ap, ◌∙◌}
 use Rattle.dep_types.specs.State.{State}
-use Rattle.dep_types.specs.Sound.{IsSound}
 use Rattle.dep_types.specs.declared.config.Config.{Config}
-use Rattle.dep_types.proofs.TickSound.{keeps_sound}
 use Rattle.dep_message.specs.Places.{Place}
-use Rattle.dep_message.specs.Stream.{Item, Fault, Continue, Request}
-use Rattle.dep_exchange.specs.Machine.{starting_state, step, state_after, Serves, serves_all, step_fails, gives_up, Fails, given_up, cut_short}
+use Rattle.dep_message.specs.Stream.{Item}
+use Rattle.dep_exchange.specs.Machine.{step, state_after, Serves, serves_all, step_fails, gives_up, Fails, given_up, cut_short}
 use Rattle.dep_exchange.specs.Stops.{LeftByFailure, LeftByServing}
 use Rattle.dep_exchange.specs.Records.{ServerEvent, Record, Line, World, Arrives, at_live, at_shut_line, LeftByArrival, Happens, connects, closes, arrives, unknown, Run, begins, goes_on, stops, breaks}
-use Rattle.dep_server.specs.Moves.{Move, Made, Begun, moved, state_by, steps_made, moves_by_failure, moves_by_serving, moves_by_arrival, moves_by_event, moves_found_after_failure, moves_found_after_serving, moves_found_after_arrival, moves_of}
+use Rattle.dep_server.specs.Moves.{Move, moved, state_by, steps_made, moves_by_failure, moves_by_serving, moves_by_arrival, moves_by_event, moves_found_after_failure, moves_found_after_serving, moves_found_after_arrival, moves_of}
 use Rattle.dep_exchange.specs.declared.arrived.Arrived.{Arrived}
-use Rattle.dep_server.proofs.SoundLemmas.{step_sound}
 
 module _ (config : Config) where
   steps_lead : (s : State) (items : List Item) (moment : ℕ) → state_after config s items moment ≡ state_by config s (steps_made items moment)
@@ -86,18 +83,3 @@ module _ (config : Config) where
   run_leads (stops r) = run_leads r
   run_leads (breaks found r arrival shut leaves) =
       further _ (moves_of r) (moves_found_after_arrival arrival found leaves) _ found (run_leads r) (arrival_found arrival found leaves)
-
-  -- ---- soundness
-
-  begun_sound : (s : State) (item : Item) (moment : ℕ) → IsSound s → IsSound (starting_state config s item moment)
-  begun_sound s (Fault r head_only) moment sound = keeps_sound config s moment sound
-  begun_sound s Continue moment sound = sound
-  begun_sound s (Request m) moment sound = keeps_sound config s moment sound
-
-  pub moved_sound : (s : State) (move : Move) → IsSound s → IsSound (moved config s move)
-  moved_sound s (Made item moment) sound = step_sound config s item moment sound
-  moved_sound s (Begun item moment) sound = begun_sound s item moment sound
-
-  pub moves_sound : (s : State) (moves : List Move) → IsSound s → IsSound (state_by config s moves)
-  moves_sound s [] sound = sound
-  moves_sound s (move ∷ moves) sound = moves_sound (moved config s move) moves (moved_sound s move sound)

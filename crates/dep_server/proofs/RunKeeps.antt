@@ -3,12 +3,13 @@ use Rattle.std.proofs.Common.{◌≡◌, ℕ, ◌⊎◌, inl, inr, List, [], ◌
 use Rattle.dep_types.specs.State.{State, tick}
 use Rattle.dep_types.specs.declared.config.Config.{Config}
 use Rattle.dep_message.specs.Places.{Place}
-use Rattle.dep_message.specs.Stream.{Item, Fault, Continue, Request}
+use Rattle.dep_message.specs.Stream.{Item}
 use Rattle.dep_exchange.specs.Machine.{starting_state, step, state_after, Serves, serves_all, step_fails, gives_up, Fails, given_up, cut_short}
 use Rattle.dep_exchange.specs.Stops.{LeftByFailure, LeftByServing}
 use Rattle.dep_exchange.specs.Records.{ServerEvent, Record, Line, World, Arrives, at_live, at_shut_line, LeftByArrival, ReadsBeyond, Happens, connects, closes, arrives, unknown, Run, begins, goes_on, stops, breaks}
 use Rattle.dep_server.specs.Acknowledged.{IsAfterSome, ServesThrough, ArrivesThrough, HappensThrough, RunsThrough}
 use Rattle.dep_exchange.specs.declared.arrived.Arrived.{Arrived}
+use Rattle.dep_server.proofs.StepsKeep.{at_start}
 
 module _ (config : Config) (P : State → Type 0)
     (ticks : (s : State) (moment : ℕ) → P s → P (tick config s moment))
@@ -17,15 +18,10 @@ module _ (config : Config) (P : State → Type 0)
   after_items s [] moment p = p
   after_items s (item ∷ items) moment p = after_items (step config s item moment).state items moment (steps s item moment p)
 
-  at_start : (s : State) (item : Item) (moment : ℕ) → P s → P (starting_state config s item moment)
-  at_start s (Fault r head_only) moment p = ticks s moment p
-  at_start s Continue moment p = p
-  at_start s (Request m) moment p = ticks s moment p
-
   -- the state of before, or that with which the step begins
   at_one : (s left : State) (item : Item) (moment : ℕ) → (left ≡ s) ⊎ (left ≡ starting_state config s item moment) → P s → P left
   at_one s left item moment (inl e) p = subst P (sym e) p
-  at_one s left item moment (inr e) p = subst P (sym e) (at_start s item moment p)
+  at_one s left item moment (inr e) p = subst P (sym e) (at_start config P ticks s item moment p)
 
   after_failure : {s left : State} {item : Item} {moment : ℕ} {sent : List ℕ} {answer : Arrived} → Fails config s item moment sent left answer → P s → P left
   after_failure {s} {left} {item} {moment} (given_up fixed sends leaves) p = at_one s left item moment leaves p
@@ -52,7 +48,7 @@ module _ (config : Config) (P : State → Type 0)
   failure_stopped : {s left : State} {item : Item} {moment : ℕ} {sent : List ℕ} {answer : Arrived} (f : Fails config s item moment sent left answer) (found : State)
       → LeftByFailure f found → P s → P found
   failure_stopped (given_up fixed sends leaves) found (inl e) p = subst P (sym e) p
-  failure_stopped {s} {item = item} {moment = moment} (given_up fixed sends leaves) found (inr (inl e)) p = subst P (sym e) (at_start s item moment p)
+  failure_stopped {s} {item = item} {moment = moment} (given_up fixed sends leaves) found (inr (inl e)) p = subst P (sym e) (at_start config P ticks s item moment p)
   failure_stopped {s} {item = item} {moment = moment} (given_up fixed sends leaves) found (inr (inr e)) p = subst P (sym e) (steps s item moment p)
   failure_stopped (cut_short part leaves) found e p = subst P (sym e) (after_failure (cut_short part leaves) p)
 

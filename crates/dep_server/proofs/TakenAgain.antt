@@ -36,10 +36,10 @@ use Rattle.dep_server.specs.Requests.{IsLetThrough}
 use Rattle.dep_server.specs.TakenAgain.{FailsAt, ArrivalFailsAt, EventFailsAt, EndsInWork, IsAcknowledged}
 use Rattle.dep_server.proofs.Acknowledging.{fields_text, front_begins, named_segment}
 use Rattle.dep_server.specs.Moves.{Move, Made, moves_of, state_by}
-use Rattle.dep_server.proofs.MovesLead.{moves_sound, over_both, run_leads}
+use Rattle.dep_server.proofs.MovesLead.{over_both, run_leads}
 use Rattle.dep_server.proofs.RunKeeps.{after_run}
 use Rattle.dep_server.proofs.SegmentsStay.{HasBytes, bytes_kept, received_represents}
-use Rattle.dep_server.proofs.SoundLemmas.{step_sound}
+use Rattle.dep_server.proofs.SoundLemmas.{step_sound, moves_sound}
 use Rattle.dep_server.proofs.UploadsKept.{HoldsStill, IsKept, sound_through, still_after, still_later}
 
 some_of : (o : Option Upload) → is_some o ≡ true → (x : Upload) × (o ≡ Some x)

@@ -1,18 +1,16 @@
 -- What each segment that is received keeps of an upload, a run keeps of it for as long as the upload is there.
-use Rattle.std.proofs.Common.{◌≡◌, ◌≢◌, ◌⊎◌, inl, inr, ℕ, ◌==◌, ◌+◌, Bool, true, false, not, cond, List, [], ◌∷◌, Option, Some, None, refl, sym, ap, subst, ◌∙◌, arith}
+use Rattle.std.proofs.Common.{◌≡◌, ◌≢◌, ◌⊎◌, inl, inr, ℕ, ◌==◌, ◌+◌, Bool, true, false, not, cond, List, Option, Some, None, refl, sym, ap, subst, ◌∙◌, arith}
 use Rattle.std.specs.FinMap as map
 use Rattle.std.proofs.lemmas.Bool.{eqb-true, eq-eqb}
 use Rattle.dep_types.specs.Maps.{Numbered}
 use Rattle.dep_types.specs.State.{State, Upload, tick, expires, clock_at}
 use Rattle.dep_types.specs.Sound.{IsSound, IsGiven}
 use Rattle.dep_types.specs.declared.config.Config.{Config}
-use Rattle.dep_types.specs.declared.refusal.Refusal.{Refusal}
 use Rattle.dep_types.proofs.Kept.{get-insert_same, get-insert_other}
 use Rattle.dep_types.proofs.Later.{given_later}
 use Rattle.dep_types.proofs.TickLemmas.{get-unexpired}
 use Rattle.dep_types.proofs.TickSound.{keeps_sound}
 use Rattle.dep_fields.specs.Fit.{AreFit}
-use Rattle.dep_fields.proofs.FitFields.{fields_are_fit}
 use Rattle.dep_decisions.specs.Decisions.{decision, numbers_for}
 use Rattle.dep_decisions.specs.Rules.{refusal}
 use Rattle.dep_decisions.specs.Effects.{effect, effect_of, at, without, used, fresh, with_segment}
@@ -23,18 +21,14 @@ use Rattle.dep_decisions.specs.Fit.{IsFitDecision}
 use Rattle.dep_decisions.proofs.FoundInMaps.{without-was, at-some, at-none}
 use Rattle.dep_decisions.proofs.Accepted.{decision_fit, effect_sound}
 use Rattle.dep_decisions.proofs.SoundEffects.{uploads_by}
-use Rattle.dep_answers.specs.Steps.{step_by, operation_step}
-use Rattle.dep_message.specs.Stream.{Item, Fault, Continue, Request}
-use Rattle.dep_message.specs.declared.message.Message.{Message}
-use Rattle.dep_router.specs.Targets.{target}
-use Rattle.dep_router.specs.declared.routed.Routed.{Routed}
-use Rattle.dep_router.specs.declared.routed.Routed.TheVariants.{To, NotFound, NotAllowed}
-use Rattle.dep_exchange.specs.Machine.{operation_of, routed_step, starting_state, step}
+use Rattle.dep_message.specs.Stream.{Item}
+use Rattle.dep_exchange.specs.Machine.{step}
 use Rattle.dep_exchange.specs.Records.{Record, World, Run}
 use Rattle.dep_server.specs.Acknowledged.{RunsThrough}
-use Rattle.dep_server.specs.Moves.{Move, Made, Begun, state_by}
+use Rattle.dep_server.specs.Moves.{Move, state_by}
 use Rattle.dep_server.proofs.RunKeeps.{through_run, from_run}
 use Rattle.dep_server.proofs.SoundLemmas.{step_sound}
+use Rattle.dep_server.proofs.StepsKeep.{by_step, by_moves}
 
 -- each segment that is received keeps this of its upload
 abbrev pub IsKept : (Upload → Type 0) → Type 0
@@ -130,39 +124,20 @@ module _ (u : ℕ) (P : Upload → Type 0) (kept : IsKept P) where
     still = ticked config s moment (expires config (clock_at s moment) s.uploads u) refl h.still;
   }
 
-  by_refusal : (config : Config) (s : State) (op : Operation) → AreFit op.fields → (o : Option Refusal) → refusal config s op ≡ o → Stays s → Stays (step_by config s op o).state
+  -- what is accepted
+  stays_then : (config : Config) (s : State) (op : Operation) → AreFit op.fields → refusal config s op ≡ None → Stays s → Stays (effect config s op)
   unfolding effect
-  by_refusal config s op fit None accepted h = record {
+  stays_then config s op fit accepted h = record {
     sound = effect_sound config s op fit accepted h.sound;
     given = given_by s op.content h.sound h.given (decision config op);
     still = still_by s op.content h.sound h.given (decision config op) (decision_fit config s op fit accepted) h.still;
   }
-  by_refusal config s op fit (Some r) refused h = h
-
-  stays_operation : (config : Config) (s : State) (op : Operation) → AreFit op.fields → Stays s → Stays (operation_step config s op).state
-  unfolding operation_step
-  stays_operation config s op fit h = by_refusal config s op fit (refusal config s op) refl h
-
-  stays_routed : (config : Config) (s : State) (m : Message) (r : Routed) → Stays s → Stays (routed_step config s m r).state
-  stays_routed config s m NotFound h = h
-  stays_routed config s m (NotAllowed methods) h = h
-  stays_routed config s m (To t) h = stays_operation config s (operation_of m t) (fields_are_fit m.head.fields) h
 
   stays_stepped : (config : Config) (s : State) (item : Item) (moment : ℕ) → Stays s → Stays (step config s item moment).state
-  unfolding step
-  stays_stepped config s (Fault r head_only) moment h = stays_ticked config s moment h
-  stays_stepped config s Continue moment h = h
-  stays_stepped config s (Request m) moment h = stays_routed config (tick config s moment) m (target m.head.method m.head.path) (stays_ticked config s moment h)
-
-  stays_begun : (config : Config) (s : State) (item : Item) (moment : ℕ) → Stays s → Stays (starting_state config s item moment)
-  stays_begun config s (Fault r head_only) moment h = stays_ticked config s moment h
-  stays_begun config s Continue moment h = h
-  stays_begun config s (Request m) moment h = stays_ticked config s moment h
+  stays_stepped config = by_step config Stays (stays_ticked config) (stays_then config)
 
   stays_moved : (config : Config) (s : State) (moves : List Move) → Stays s → Stays (state_by config s moves)
-  stays_moved config s [] h = h
-  stays_moved config s (Made item moment ∷ moves) h = stays_moved config (step config s item moment).state moves (stays_stepped config s item moment h)
-  stays_moved config s (Begun item moment ∷ moves) h = stays_moved config (starting_state config s item moment) moves (stays_begun config s item moment h)
+  stays_moved config = by_moves config Stays (stays_ticked config) (stays_then config)
 
   at_first : (s : State) → IsSound s → Holds u P s.uploads → Stays s
   at_first s sound h = record { sound = sound; given = (sound.uploads u h.0 h.1).number_given; still = inl h }

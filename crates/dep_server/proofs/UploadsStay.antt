@@ -32,7 +32,8 @@ use Rattle.dep_exchange.specs.Machine.{operation_of, routed_step, step}
 use Rattle.dep_exchange.specs.Records.{Record, World, Run}
 use Rattle.dep_server.specs.Moves.{Move, Made, Begun, moved, state_by, moves_of}
 use Rattle.dep_server.specs.Acknowledged.{HasSegment, TimesOut, IsUsed, EndsUpload, IsEnded, StaysUntilEnded}
-use Rattle.dep_server.proofs.MovesLead.{over_both, run_leads, moved_sound, moves_sound}
+use Rattle.dep_server.proofs.MovesLead.{over_both, run_leads}
+use Rattle.dep_server.proofs.SoundLemmas.{moved_sound, moves_sound}
 use Rattle.dep_server.proofs.UploadsKept.{Holds, beside, with_more}
 use Rattle.dep_server.proofs.SegmentsStay.{HasBytes, bytes_kept}
 
