@@ -20,13 +20,13 @@ use Rattle.dep_router.specs.Targets.{target}
 use Rattle.dep_router.specs.declared.routed.Routed.{Routed}
 use Rattle.dep_router.specs.declared.routed.Routed.TheVariants.{To, NotFound, NotAllowed}
 use Rattle.dep_exchange.specs.Machine.{operation_of, routed_step, step}
-use Rattle.dep_exchange.specs.Records.{Record, World, Run}
-use Rattle.dep_server.specs.Moves.{Move, Made, Begun, moved, state_by, moves_of}
+use Rattle.dep_server.specs.Moves.{Move, Made, Begun, moved, state_by}
 use Rattle.dep_server.specs.Requests.{AnyRequest, step_of, ticked, left_by, IsLetThrough, IsAcceptedFor}
-use Rattle.dep_server.specs.Runs.{AnyRun, RequestIn, as_it_came}
-use Rattle.dep_server.specs.Deposited.{IsTaken, deposit_object, deposited_number, StaysUntilTaken, IsDeposit, EntryStaysFrom}
-use Rattle.dep_server.proofs.MovesLead.{over_both, run_leads}
-use Rattle.dep_server.proofs.SoundLemmas.{moved_sound, moves_sound}
+use Rattle.dep_server.specs.Runs.{AnyRun, PointOf, state_at, RequestIn, as_it_came}
+use Rattle.dep_server.specs.Deposited.{IsTaken, deposit_object, deposited_number, StaysUntilTaken, FileStaysFrom, IsDeposit, EntryStaysFrom}
+use Rattle.dep_server.proofs.MovesLead.{over_both}
+use Rattle.dep_server.proofs.SoundLemmas.{moves_sound}
+use Rattle.dep_server.proofs.UntilEnded.{HasEnd, until_ended}
 
 module _ (config : Config) (n f : ℕ) (file : File) where
   abbrev StaysFile : State → Type 0
@@ -80,48 +80,24 @@ module _ (config : Config) (n f : ℕ) (file : File) where
   by_move s (Begun Continue moment) sound h = inl h
   by_move s (Begun (Request m) moment) sound h = inl h
 
-  taken_first : (s : State) (move : Move) (moves : List Move) → Takes s move → IsTaken config s (move ∷ moves) n f
-  taken_first s move moves t = record {
-    before = [];
-    behind = moves;
-    message = t.message;
-    moment = t.moment;
-    target = t.target;
-    among = ap (λ (x : Move). x ∷ moves) t.is;
-    accepted = t.accepted;
-    takes = t.takes;
-  }
-
-  taken_later : (s : State) (move : Move) (moves : List Move) → IsTaken config (moved config s move) moves n f → IsTaken config s (move ∷ moves) n f
-  taken_later s move moves t = record {
-    before = move ∷ t.before;
+  taken_among : (s : State) (moves : List Move) → HasEnd config Takes s moves → IsTaken config s moves n f
+  taken_among s moves t = record {
+    before = t.before;
     behind = t.behind;
-    message = t.message;
-    moment = t.moment;
-    target = t.target;
-    among = ap (λ (l : List Move). move ∷ l) t.among;
-    accepted = t.accepted;
-    takes = t.takes;
+    message = t.ends.message;
+    moment = t.ends.moment;
+    target = t.ends.target;
+    among = t.among ∙ ap (λ (x : Move). t.before ++ x ∷ t.behind) t.ends.is;
+    accepted = t.ends.accepted;
+    takes = t.ends.takes;
   }
 
-  by_moves : (s : State) (moves : List Move) → IsSound s → StaysFile s → StaysUntilTaken config s moves (state_by config s moves) n f file
-  by_moves s [] sound h = inl h
-  by_moves s (move ∷ moves) sound h = elim (by_move s move sound h) [
-    | inl stays ↦ elim (by_moves (moved config s move) moves (moved_sound config s move sound) stays) [
-      | inl there ↦ inl there
-      | inr taken ↦ inr (taken_later s move moves taken)
-    ]
-    | inr taken ↦ inr (taken_first s move moves taken)
-  ]
-
-  -- from a place in a run on
-  pub stays : (first : State) (records : List Record) (w : World) (r : Run config first records w) (before behind : List Move) → IsSound first
-      → moves_of r ≡ before ++ behind → StaysFile (state_by config first before) → StaysUntilTaken config (state_by config first before) behind w.state n f file
-  stays first records w r before behind sound split h =
-      let last : w.state ≡ state_by config (state_by config first before) behind =
-      run_leads config r ∙ ap (λ (l : List Move). state_by config first l) split ∙ over_both config first before behind in
-      subst (λ (t : State). StaysUntilTaken config (state_by config first before) behind t n f file) (sym last)
-      (by_moves (state_by config first before) behind (moves_sound config first before sound) h)
+-- from a point of a run on
+pub stays : (r : AnyRun) (p : PointOf r) (n f : ℕ) (file : File) → IsSound r.first → file_at (state_at p) n f ≡ Some file → FileStaysFrom p n f file
+stays r p n f file sound h = elim (until_ended r (StaysFile r.config n f file) (Takes r.config n f file) (by_move r.config n f file) p sound h) [
+  | inl there ↦ inl there
+  | inr taken ↦ inr (taken_among r.config n f file (state_at p) p.behind taken)
+]
 
 -- ---- a deposit by reference
 
@@ -166,6 +142,6 @@ stays_deposited r q t i reference sound d =
       there = made.1;
       deposited = made.2;
       stays = subst (λ (now : State). StaysUntilTaken config now q.behind r.last.state n f made.0) after
-          (stays config n f made.0 r.first r.records r.last r.run (q.before ++ move ∷ []) q.behind sound (q.joined ∙ cons_moves q.before move q.behind)
+          (stays r (record { before = q.before ++ move ∷ []; behind = q.behind; joined = q.joined ∙ cons_moves q.before move q.behind }) n f made.0 sound
           (subst (λ (now : State). file_at now n f ≡ Some made.0) (sym after) made.1));
     }

@@ -6,6 +6,7 @@ mod RunKeeps
 mod UploadsKept
 mod SegmentsStay
 mod MovesLead
+mod UntilEnded
 mod FilesStay
 mod UploadsStay
 mod Refusing

@@ -83,3 +83,8 @@ module _ (config : Config) where
   run_leads (stops r) = run_leads r
   run_leads (breaks found r arrival shut leaves) =
       further _ (moves_of r) (moves_found_after_arrival arrival found leaves) _ found (run_leads r) (arrival_found arrival found leaves)
+
+  -- from a place in a run on
+  pub leads_on : {first : State} {records : List Record} {w : World} (r : Run config first records w) (before behind : List Move) → moves_of r ≡ before ++ behind
+      → w.state ≡ state_by config (state_by config first before) behind
+  leads_on {first} r before behind split = run_leads r ∙ ap (λ (moves : List Move). state_by config first moves) split ∙ over_both first before behind

@@ -36,7 +36,7 @@ use Rattle.dep_server.specs.Requests.{IsLetThrough}
 use Rattle.dep_server.specs.TakenAgain.{FailsAt, ArrivalFailsAt, EventFailsAt, EndsInWork, IsAcknowledged}
 use Rattle.dep_server.proofs.Acknowledging.{fields_text, front_begins, named_segment}
 use Rattle.dep_server.specs.Moves.{Move, Made, moves_of, state_by}
-use Rattle.dep_server.proofs.MovesLead.{over_both, run_leads}
+use Rattle.dep_server.proofs.MovesLead.{leads_on}
 use Rattle.dep_server.proofs.RunKeeps.{after_run}
 use Rattle.dep_server.proofs.SegmentsStay.{HasBytes, bytes_kept, received_represents}
 use Rattle.dep_server.proofs.SoundLemmas.{step_sound, moves_sound}
@@ -239,8 +239,7 @@ after_step config first records w r before behind m moment u sound split accepte
     let k = named_segment config (tick config s moment) m u accepted.passed in
     let has = received_represents config s m moment u k.0 accepted.named k.1 accepted.passed in
     let t_sound = step_sound config s (Request m) moment (moves_sound config first before sound) in
-    let end : w.state ≡ state_by config t behind =
-    run_leads config r ∙ ap (λ (l : List Move). state_by config first l) split ∙ over_both config first before (Made (Request m) moment ∷ behind) in
+    let end : w.state ≡ state_by config t behind = leads_on config r before (Made (Request m) moment ∷ behind) split in
     let end_sound : IsSound (tick config w.state later) = keeps_sound config w.state later (after_run config IsSound (keeps_sound config) (step_sound config) r sound) in
     taken config m u w.state later accepted.named
     (still_accepted config m u k.0 k.1 (HasBytes k.0 m.content) (tick config s moment) w.state later accepted.passed

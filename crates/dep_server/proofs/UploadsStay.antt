@@ -1,5 +1,5 @@
 -- A segment stays until its upload is deposited, deleted or timed out.
-use Rattle.std.proofs.Common.{◌≡◌, ◌≢◌, ◌⊎◌, inl, inr, ℕ, ◌==◌, nat_eq, Bool, true, false, not, cond, ◌||◌, List, [], ◌∷◌, ◌++◌, Option, Some, None, IsTrue, refl, sym, ap, subst, ◌∙◌, arith}
+use Rattle.std.proofs.Common.{◌≡◌, ◌≢◌, ◌⊎◌, inl, inr, ℕ, ◌==◌, nat_eq, Bool, true, false, not, cond, ◌||◌, List, [], ◌∷◌, Option, Some, None, IsTrue, refl, sym, ap, subst, ◌∙◌, arith}
 use Rattle.std.specs.List.{list_any}
 use Rattle.std.specs.FinMap as map
 use Rattle.std.specs.Cmp.{nat_cmp_total}
@@ -29,13 +29,12 @@ use Rattle.dep_router.specs.Targets.{target}
 use Rattle.dep_router.specs.declared.routed.Routed.{Routed}
 use Rattle.dep_router.specs.declared.routed.Routed.TheVariants.{To, NotFound, NotAllowed}
 use Rattle.dep_exchange.specs.Machine.{operation_of, routed_step, step}
-use Rattle.dep_exchange.specs.Records.{Record, World, Run}
-use Rattle.dep_server.specs.Moves.{Move, Made, Begun, moved, state_by, moves_of}
-use Rattle.dep_server.specs.Acknowledged.{HasSegment, TimesOut, IsUsed, EndsUpload, IsEnded, StaysUntilEnded}
-use Rattle.dep_server.proofs.MovesLead.{over_both, run_leads}
-use Rattle.dep_server.proofs.SoundLemmas.{moved_sound, moves_sound}
+use Rattle.dep_server.specs.Moves.{Move, Made, Begun, moved}
+use Rattle.dep_server.specs.Runs.{AnyRun, PointOf, state_at}
+use Rattle.dep_server.specs.Acknowledged.{HasSegment, TimesOut, IsUsed, EndsUpload, StaysUntilEnded, SegmentStaysFrom}
 use Rattle.dep_server.proofs.UploadsKept.{Holds, beside, with_more}
 use Rattle.dep_server.proofs.SegmentsStay.{HasBytes, bytes_kept}
+use Rattle.dep_server.proofs.UntilEnded.{HasEnd, until_ended}
 
 -- one of two
 second_true : (a b : Bool) → IsTrue b → IsTrue (a || b)
@@ -141,37 +140,15 @@ module _ (u k : ℕ) (bytes : List ℕ) where
     by_move s (Begun Continue moment) sound h = inl h
     by_move s (Begun (Request m) moment) sound h = by_tick s moment h
 
-    ended_first : (s : State) (move : Move) (moves : List Move) → EndsUpload config s move u → IsEnded config s (move ∷ moves) u
-    ended_first s move moves e = record { before = []; behind = moves; move = move; among = refl; ends = e }
+    abbrev Ends : State → Move → Type 0
+    Ends s move = EndsUpload config s move u
 
-    ended_later : (s : State) (move : Move) (moves : List Move) → IsEnded config (moved config s move) moves u → IsEnded config s (move ∷ moves) u
-    ended_later s move moves e = record {
-      before = move ∷ e.before;
-      behind = e.behind;
-      move = e.move;
-      among = ap (λ (l : List Move). move ∷ l) e.among;
-      ends = e.ends;
-    }
+    reported : (s : State) (moves : List Move) (last : State) → Has last ⊎ HasEnd config Ends s moves → StaysUntilEnded config s moves last u k bytes
+    reported s moves last (inl h) = inl (record { upload = h.0; there = h.1; received = h.2 })
+    reported s moves last (inr e) = inr (record { before = e.before; behind = e.behind; move = e.move; among = e.among; ends = e.ends })
 
-    by_moves : (s : State) (moves : List Move) → IsSound s → Has s → Has (state_by config s moves) ⊎ IsEnded config s moves u
-    by_moves s [] sound h = inl h
-    by_moves s (move ∷ moves) sound h = elim (by_move s move sound h) [
-      | inl stays ↦ elim (by_moves (moved config s move) moves (moved_sound config s move sound) stays) [
-        | inl there ↦ inl there
-        | inr ended ↦ inr (ended_later s move moves ended)
-      ]
-      | inr ends ↦ inr (ended_first s move moves ends)
-    ]
-
-    reported : (s : State) (moves : List Move) (last : State) → last ≡ state_by config s moves → Has (state_by config s moves) ⊎ IsEnded config s moves u
-        → StaysUntilEnded config s moves last u k bytes
-    reported s moves last e (inl h) = inl (subst (λ (t : State). HasSegment t u k bytes) (sym e) (record { upload = h.0; there = h.1; received = h.2 }))
-    reported s moves last e (inr ended) = inr ended
-
-    -- from a place in a run on
-    pub segment_stays : (first : State) (records : List Record) (w : World) (r : Run config first records w) (before behind : List Move) → IsSound first
-        → moves_of r ≡ before ++ behind → HasSegment (state_by config first before) u k bytes → StaysUntilEnded config (state_by config first before) behind w.state u k bytes
-    segment_stays first records w r before behind sound split h =
-        reported (state_by config first before) behind w.state
-        (run_leads config r ∙ ap (λ (l : List Move). state_by config first l) split ∙ over_both config first before behind)
-        (by_moves (state_by config first before) behind (moves_sound config first before sound) (h.upload, h.there, h.received))
+  -- from a point of a run on
+  pub segment_stays : (r : AnyRun) (p : PointOf r) → IsSound r.first → HasSegment (state_at p) u k bytes → SegmentStaysFrom p u k bytes
+  segment_stays r p sound h =
+      reported r.config (state_at p) p.behind r.last.state
+      (until_ended r (Has r.config) (Ends r.config) (by_move r.config) p sound (h.upload, h.there, h.received))
