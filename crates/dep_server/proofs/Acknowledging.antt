@@ -1,19 +1,18 @@
 -- A segment whose reply has the status 204 stands there.
-use Rattle.std.proofs.Common.{◌≡◌, ℕ, ◌||◌, Bool, true, false, List, [], ◌++◌, get_or, Option, Some, None, is_some, option_map, decimal, codes, refl, sym, ap, subst, ◌∙◌, append_assoc}
+use Rattle.std.proofs.Common.{◌≡◌, ℕ, ◌||◌, Bool, true, false, List, [], ◌++◌, get_or, Option, Some, None, is_some, refl, sym, ap, subst, ◌∙◌, append_assoc}
 use Rattle.std.specs.Fmt.{digits}
-use Rattle.dep_types.specs.Numbers.{quoted_tag}
+use Rattle.std.proofs.lemmas.List.{append-nil}
 use Rattle.dep_types.specs.Refusals.{facts_of}
 use Rattle.dep_types.specs.State.{State, tick}
 use Rattle.dep_types.specs.declared.config.Config.{Config}
 use Rattle.dep_types.specs.declared.refusal.Refusal.{Refusal}
 use Rattle.dep_types.specs.declared.refusal.Refusal.TheVariants as why
 use Rattle.dep_types.specs.declared.target.Method.TheVariants.{Post}
-use Rattle.dep_moment.specs.Civil.{http_text}
 use Rattle.dep_fields.specs.declared.field.Field.{Field}
 use Rattle.dep_fields.specs.declared.field.Field.TheVariants.{Absent, Bad, Value}
 use Rattle.dep_fields.specs.declared.kind.Kind.{Kind}
 use Rattle.dep_fields.specs.declared.kind.Kind.TheVariants as of
-use Rattle.dep_reply.specs.Head.{ReplyHead, status_line, field, optional_field, connection, line, head_text}
+use Rattle.dep_reply.specs.Head.{ReplyHead, status_line, head_text}
 use Rattle.dep_decisions.specs.Kinds.{content_kind, kind_by, is_completion}
 use Rattle.dep_decisions.specs.LookUps.{in_state}
 use Rattle.dep_decisions.specs.Rules.{refusal, kind_rule}
@@ -22,7 +21,7 @@ use Rattle.dep_decisions.proofs.FoundInMaps.{unless-none}
 use Rattle.dep_decisions.proofs.Passed.{content_passed}
 use Rattle.dep_answers.specs.Answers.{Answer, document_of, head_of}
 use Rattle.dep_answers.specs.Replies.{unless_head_only, front_text, stored_text, refused_answer}
-use Rattle.dep_answers.specs.Steps.{sent_by, refused_step, is_head, step_by, operation_step}
+use Rattle.dep_answers.specs.Steps.{sent_by, answered_step, refused_step, is_head, step_by, operation_step}
 use Rattle.dep_message.specs.Stream.{Request}
 use Rattle.dep_message.specs.declared.message.Message.{Message}
 use Rattle.dep_router.specs.Targets.{target}
@@ -50,39 +49,26 @@ unfolding ninth status_line digits
 other_status why.StoreFull x y e = apart_too _ _ e refl refl
 other_status _ x y e = apart _ _ e refl refl
 
--- what stands behind the status in a head
-pub fields_text : ReplyHead → List ℕ
-fields_text r =
-    field (codes "Date") (http_text r.date)
-    ++ optional_field (codes "Content-Type") r.content_type
-    ++ optional_field (codes "Content-Length") (option_map decimal r.content_length)
-    ++ optional_field (codes "ETag") (option_map quoted_tag r.tag)
-    ++ optional_field (codes "Location") r.location
-    ++ optional_field (codes "Allow") r.allow
-    ++ optional_field (codes "Connection") (connection r.closes)
-    ++ line []
+-- with more behind it
+more : (status : ℕ) {sent : List ℕ} (behind : List ℕ) → BeginsWithStatus status sent → BeginsWithStatus status (sent ++ behind)
+more status behind h = (h.0 ++ behind, ap (λ t. t ++ behind) h.1 ∙ append_assoc (status_line status) h.0 behind)
 
-regroup : (s a b c d e f g h document : List ℕ) → ((((((((s ++ a) ++ b) ++ c) ++ d) ++ e) ++ f) ++ g) ++ h) ++ document
-    ≡ s ++ ((((((((a ++ b) ++ c) ++ d) ++ e) ++ f) ++ g) ++ h) ++ document)
-regroup s a b c d e f g h document = simp append_assoc
+head_begins : (r : ReplyHead) → BeginsWithStatus r.status (head_text r)
+unfolding head_text
+head_begins r =
+    let n : ℕ = r.status in
+    more n _ (more n _ (more n _ (more n _ (more n _ (more n _ (more n _ (more n _ ([], sym (append-nil (status_line n))))))))))
 
-pub front_begins : (a : Answer) (clock : ℕ) (head_only ends : Bool)
-    → front_text a clock head_only ends ≡ status_line a.status ++ (fields_text (head_of a clock ends) ++ unless_head_only head_only (document_of a.content))
-unfolding front_text head_text fields_text
-front_begins a clock head_only ends =
-    let r = head_of a clock ends in
-    regroup (status_line a.status) (field (codes "Date") (http_text r.date)) (optional_field (codes "Content-Type") r.content_type)
-    (optional_field (codes "Content-Length") (option_map decimal r.content_length)) (optional_field (codes "ETag") (option_map quoted_tag r.tag))
-    (optional_field (codes "Location") r.location) (optional_field (codes "Allow") r.allow) (optional_field (codes "Connection") (connection r.closes)) (line [])
-    (unless_head_only head_only (document_of a.content))
+-- a reply begins with the status of its answer
+pub reply_begins : (s : State) (a : Answer) (clock : ℕ) (head_only ends : Bool) → BeginsWithStatus a.status (sent_by (answered_step s a clock head_only ends))
+unfolding front_text
+reply_begins s a clock head_only ends =
+    more a.status (stored_text a head_only) (more a.status (unless_head_only head_only (document_of a.content)) (head_begins (head_of a clock ends)))
 
 not_refused : (s : State) (r : Refusal) (head_only ends : Bool) → BeginsWithStatus 204 (sent_by (refused_step s r None head_only ends)) → ⊥
 not_refused s r head_only ends h =
-    let a = refused_answer s.clock r None in
-    let behind : List ℕ = fields_text (head_of a s.clock ends) ++ unless_head_only head_only (document_of a.content) in
-    other_status r (behind ++ stored_text a head_only) h.0
-    (sym (append_assoc (status_line a.status) behind (stored_text a head_only))
-    ∙ (ap (λ t. t ++ stored_text a head_only) (sym (front_begins a s.clock head_only ends)) ∙ h.1))
+    let begins = reply_begins s (refused_answer s.clock r None) s.clock head_only ends in
+    other_status r begins.0 h.0 (sym begins.1 ∙ h.1)
 
 -- ---- what is accepted names a segment
 

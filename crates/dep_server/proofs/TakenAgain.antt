@@ -1,5 +1,5 @@
 -- A segment that was accepted once is accepted again, unless other bytes are received as this segment.
-use Rattle.std.proofs.Common.{◌≡◌, ◌⊎◌, inl, inr, ℕ, ◌∷◌, ◌++◌, Bool, true, not, List, Option, Some, None, is_some, refl, sym, ap, subst, ◌∙◌, append_assoc}
+use Rattle.std.proofs.Common.{◌≡◌, ◌⊎◌, inl, inr, ℕ, ◌∷◌, ◌++◌, true, not, List, Option, Some, None, is_some, refl, sym, ap, subst, ◌∙◌}
 use Rattle.std.specs.FinMap as map
 use Rattle.dep_types.specs.State.{State, Upload, tick, expires, clock_at}
 use Rattle.dep_types.specs.Sound.{IsSound}
@@ -17,13 +17,11 @@ use Rattle.dep_decisions.specs.Laws.{posted_to}
 use Rattle.dep_decisions.specs.declared.operation.Operation.{Operation}
 use Rattle.dep_decisions.proofs.SegmentRequests.{accepted_again, effect_is, let_through, present}
 use Rattle.dep_decisions.proofs.Segments.{IsGood, in_range, let_through_is_good, good_passes, repeat_passes, stands_then}
-use Rattle.dep_answers.specs.Answers.{Answer, document_of, head_of}
-use Rattle.dep_answers.specs.Replies.{empty_answer, stored_text, unless_head_only}
-use Rattle.dep_answers.specs.Steps.{accepted_answer, answered_step, is_head, operation_step, sent_by, step_by}
+use Rattle.dep_answers.specs.Replies.{empty_answer}
+use Rattle.dep_answers.specs.Steps.{accepted_answer, is_head, operation_step, sent_by, step_by}
 use Rattle.dep_message.specs.Places.{Place}
 use Rattle.dep_message.specs.Stream.{Item, Request}
 use Rattle.dep_message.specs.declared.message.Message.{Message}
-use Rattle.dep_reply.specs.Head.{status_line}
 use Rattle.dep_router.specs.Targets.{target}
 use Rattle.dep_router.specs.declared.routed.Routed.{Routed}
 use Rattle.dep_router.specs.declared.routed.Routed.TheVariants.{To}
@@ -34,7 +32,7 @@ use Rattle.dep_exchange.specs.declared.arrived.Arrived.{Arrived}
 use Rattle.dep_server.specs.Acknowledged.{RunsThrough, HasSegment, BeginsWithStatus}
 use Rattle.dep_server.specs.Requests.{IsLetThrough}
 use Rattle.dep_server.specs.TakenAgain.{FailsAt, ArrivalFailsAt, EventFailsAt, EndsInWork, IsAcknowledged}
-use Rattle.dep_server.proofs.Acknowledging.{fields_text, front_begins, named_segment}
+use Rattle.dep_server.proofs.Acknowledging.{reply_begins, named_segment}
 use Rattle.dep_server.specs.Moves.{Move, Made, moves_of, state_by}
 use Rattle.dep_server.proofs.MovesLead.{leads_on}
 use Rattle.dep_server.proofs.RunKeeps.{after_run}
@@ -61,21 +59,13 @@ IsAcceptedStill config s m u = (later : ℕ) → is_some (map.get (tick config s
 
 -- ---- the reply
 
-status_first : (s : State) (clock : ℕ) (head_only ends : Bool) (a : Answer) → a.status ≡ 204 → BeginsWithStatus 204 (sent_by (answered_step s a clock head_only ends))
-status_first s clock head_only ends a status =
-    let behind : List ℕ = fields_text (head_of a clock ends) ++ unless_head_only head_only (document_of a.content) in (
-      behind ++ stored_text a head_only,
-      ap (λ t. t ++ stored_text a head_only) (front_begins a clock head_only ends ∙ ap (λ n. status_line n ++ behind) status)
-          ∙ append_assoc (status_line 204) behind (stored_text a head_only),
-    )
-
 module _ (config : Config) (m : Message) (u : ℕ) where
   abbrev op : Operation
   op = operation_of m (posted_to u)
 
   replied_by : (s : State) (o : Option Refusal) → o ≡ None → BeginsWithStatus 204 (sent_by (step_by config s op o))
   unfolding accepted_answer
-  replied_by s None e = status_first (effect config s op) s.clock (is_head Post) op.closes empty_answer refl
+  replied_by s None e = reply_begins (effect config s op) empty_answer s.clock (is_head Post) op.closes
   replied_by s (Some r) e = cc e
 
   taken : (s : State) (moment : ℕ) → target m.head.method m.head.path ≡ To (posted_to u) → refusal config (tick config s moment) op ≡ None
