@@ -15,7 +15,7 @@ use std::alloc::Global;
 
 /// The files of an object, by ascending number; none where there is no such object. A number of 2^63
 /// or more is a fault of the store.
-pub fn load_files<T: Statements>(
+pub(crate) fn load_all<T: Statements>(
     tx: &mut T,
     alloc: Global,
     object: u64,
@@ -40,7 +40,7 @@ fn load_sha512<T: Statements>(tx: &mut T, file: u64) -> Result<[u8; 64], StoreFa
 
 /// The SHA-512 of each of these files, which are an object's, in their order. It is a fault of the store
 /// where one has none, and where a number is 2^63 or more.
-pub fn load_sha512s<T: Statements>(
+pub(crate) fn load_sha512s<T: Statements>(
     tx: &mut T,
     alloc: Global,
     rows: &[FileRow],

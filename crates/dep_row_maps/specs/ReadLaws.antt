@@ -112,6 +112,10 @@ abbrev pub FilesListed : Type 0
 FilesListed = HoldsOfTables (λ t s. (n : ℕ)
     → filter (is_file_of n) t.files ≡ rows_of (file_stored n) (files_at s.objects n))
 
+-- the rows of an object's files, by number
+abbrev pub listed_files : ℕ → Numbered File → List FileRow
+listed_files n files = each (λ e. file_row n e.0 e.1) (map.entries files)
+
 -- what a query finds of an object's files is the row of each, by number
 abbrev pub FilesRead : Type 0
 FilesRead = HoldsOfTables (λ t s. (n : ℕ) (found : List FileRow) → AreFileRowsOf n t found

@@ -8,6 +8,7 @@ use Rattle.dep_types.specs.Rows.{object_row, object_view, file_row, sha512s_of}
 use Rattle.dep_types.specs.declared.rows.FileRow.{FileRow}
 use Rattle.dep_types.specs.declared.rows.ObjectRow.{ObjectRow}
 use Rattle.dep_types.specs.declared.rows.ObjectView.{ObjectView}
+use Rattle.dep_row_maps.specs.Stored.{HasRow}
 use Rattle.dep_row_maps.specs.TablesAre.{files_at}
 use Rattle.dep_objects.specs.Objects.{described_object}
 use Rattle.dep_objects.specs.declared.objects.DescribedObject.{DescribedObject}
@@ -40,3 +41,11 @@ described_number s n found is = go (finmap.get s.objects n) is
     go : (o : Option Object) → Some found ≡ option_map (described_object n) o → found.row.object ≡ n
     go None e = absurd (cc)
     go (Some o) e = let same : found ≡ described_object n o = cc in ap (λ (d : DescribedObject). d.row.object) same
+
+-- and is that of its object
+pub described_row : (s : State) (found : DescribedObject) → Some found ≡ option_map (described_object found.row.object) (finmap.get s.objects found.row.object) → HasRow s found.row
+described_row s found is = go (finmap.get s.objects found.row.object) is
+  where
+    go : (o : Option Object) → Some found ≡ option_map (described_object found.row.object) o → Some found.row ≡ option_map (object_row found.row.object) o
+    go None e = absurd (cc)
+    go (Some o) e = let same : found ≡ described_object found.row.object o = cc in ap (λ (d : DescribedObject). Some d.row) same

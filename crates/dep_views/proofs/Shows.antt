@@ -28,13 +28,16 @@ use Rattle.dep_staging.specs.declared.loading.FoundUpload.TheVariants as found
 use Rattle.dep_staging.specs.declared.loading.StagedUpload.{StagedUpload}
 use Rattle.dep_row_maps.specs.Clauses.{ReadsMaps}
 use Rattle.dep_row_maps.specs.TablesAre.{TablesAre, files_at}
-use Rattle.dep_objects.specs.Objects.{HasRow}
+use Rattle.dep_row_maps.specs.Stored.{HasRow}
 use Rattle.dep_objects.proofs.Puts.{has_row, its_number}
 use Rattle.dep_tables.specs.Clauses.{ReadsWithin}
 use Rattle.dep_tables.specs.Tables.{HasOurTables, tables_in}
 use Rattle.dep_tables.proofs.Chains.{clean_before, may_put, may_read, may_then, reads_ok}
 use Rattle.dep_tables.proofs.Results.{ok_then}
 use Rattle.dep_views.proofs.Found.{numbers_are}
+use Rattle.dep_files.specs.Ahead.{AreFilesAhead}
+use Rattle.dep_views.specs.Ahead.{AreRowsAhead}
+use Rattle.dep_views.specs.declared.ahead.RowsAhead.{RowsAhead}
 use Rattle.dep_views.specs.Shown.{MayFindRow, MayReadShown, ReadsShown, object_of_read_set, object_row_read}
 
 module _ {X Y Z : Type 0} (f : X → Y) (g : Y → Z) (z : Z) where
@@ -124,9 +127,17 @@ module _ {T L : Type 0} {lenders : T → L} {state : T → db.State} {old new : 
   }
 
   -- whatever was read ahead
-  pub beside_texts : {reported : State → Type 0} (more : State → Type 0) → MayReadShown lenders state old new r a reported → MayReadShown lenders state old new r a (λ s. reported s × more s)
-  beside_texts more reads = record {
+  pub beside_rows : {reported : State → Type 0} (more : State → Type 0) → MayReadShown lenders state old new r a reported → MayReadShown lenders state old new r a (λ s. reported s × more s)
+  beside_rows more reads = record {
     map = record { found = λ clean inside ours s are sound told. reads.map.found clean inside ours s are sound told.0; keeps = reads.map.keeps };
+    still = reads.still;
+  }
+
+  -- files that were read ahead are among the rows that were
+  pub by_files : {row : ObjectRow} {rows : RowsAhead} → MayReadShown lenders state old new r a (λ s. HasRow s row × AreFilesAhead s rows.files)
+      → MayReadShown lenders state old new r a (λ s. HasRow s row × AreRowsAhead s rows)
+  by_files reads = record {
+    map = record { found = λ clean inside ours s are sound told. reads.map.found clean inside ours s are sound (told.0, told.1.files); keeps = reads.map.keeps };
     still = reads.still;
   }
 

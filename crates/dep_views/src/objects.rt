@@ -2,14 +2,17 @@
 
 ghost use Rattle.std.specs.Prelude.{◌≡◌, IfOk, option_map};
 ghost use Rattle.std.specs.FinMap as finmap;
+ghost use Rattle.dep_types.specs.State.{State};
 ghost use Rattle.dep_types.specs.Sound.{IsSound};
 ghost use Rattle.dep_types.specs.Rows.{object_view};
 ghost use Rattle.dep_tables.specs.Clauses.{ReadsWithin};
 ghost use Rattle.dep_row_maps.specs.Clauses.{Finds, FromMaps};
-ghost use Rattle.dep_objects.specs.Objects.{HasRow, IsDescribed};
+ghost use Rattle.dep_row_maps.specs.Stored.{HasRow};
+ghost use Rattle.dep_files.specs.Ahead.{AreFilesAhead};
+ghost use Rattle.dep_objects.specs.Objects.{IsDescribed};
 ghost use Rattle.dep_views.specs.Shown.{IsViewOf};
 
-use dep_files::{load_files, load_sha512s};
+use dep_files::{FilesAhead, load_hashed_files};
 use dep_objects::{DescribedObject, describe, find_object};
 use dep_tables::Statements;
 use dep_types::{ObjectRow, ObjectView, StoreFault};
@@ -19,33 +22,36 @@ use std::alloc::Global;
 pub(crate) fn view_of<T: Statements>(
     tx: &mut T,
     alloc: Global,
+    files: &mut FilesAhead,
     row: ObjectRow,
 ) -> Result<ObjectView, StoreFault>
     ensures map { Finds T.lenders T.state tx.old tx.new result
-        (λ s. IsSound s → HasRow s row → IfOk result (IsViewOf s row.object)) }
+        (λ s. IsSound s → AreFilesAhead s files.old → HasRow s row
+        → IfOk result (IsViewOf s row.object)) }
+    ensures files { (s : State) → AreFilesAhead s files.old → AreFilesAhead s files.new }
 {
     let described = describe(tx, alloc, row)?;
-    with_files(tx, alloc, described)
+    with_files(tx, alloc, files, described)
 }
 
-/// Returns the object that is described, with its files.
+/// Returns the object that is described, with its files. Those that were read ahead are taken out.
 pub(crate) fn with_files<T: Statements>(
     tx: &mut T,
     alloc: Global,
+    files: &mut FilesAhead,
     described: DescribedObject,
 ) -> Result<ObjectView, StoreFault>
     ensures map { Finds T.lenders T.state tx.old tx.new result
-        (λ s. IsSound s → IsDescribed s described.row.object described
+        (λ s. IsSound s → AreFilesAhead s files.old → IsDescribed s described.row.object described
         → IfOk result (IsViewOf s described.row.object)) }
+    ensures files { (s : State) → AreFilesAhead s files.old → AreFilesAhead s files.new }
 {
-    let object = described.row.object;
-    let files = load_files(tx, alloc, object)?;
-    let sha512s = load_sha512s(tx, alloc, files.as_slice())?;
+    let hashed = load_hashed_files(tx, alloc, files, &described.row)?;
     Ok(ObjectView {
         object: described.row,
         metadata: described.metadata,
-        files,
-        sha512s,
+        files: hashed.rows,
+        sha512s: hashed.sha512s,
     })
 }
 
@@ -64,6 +70,7 @@ pub fn load_object_view<T: Statements>(
     let Some(row) = find_object(tx, object)? else {
         return Ok(None);
     };
-    let view = view_of(tx, alloc, row)?;
+    let mut none = FilesAhead::new();
+    let view = view_of(tx, alloc, &mut none, row)?;
     Ok(Some(view))
 }

@@ -3,54 +3,59 @@
 ghost use Rattle.std.specs.Prelude.{◌≡◌, ⊤, Some, None, IfSome};
 ghost use Rattle.dep_answers.specs.declared.read_set.ReadSet.TheVariants as read_set;
 ghost use Rattle.dep_types.specs.State.{State};
-ghost use Rattle.dep_objects.specs.Ahead.{AreReadAhead};
-ghost use Rattle.dep_objects.specs.Objects.{HasRow};
+ghost use Rattle.dep_files.specs.Ahead.{AreFilesAhead};
+ghost use Rattle.dep_row_maps.specs.Stored.{HasRow};
+ghost use Rattle.dep_views.specs.Ahead.{AreRowsAhead};
 ghost use Rattle.dep_views.specs.Shown.{MayFindRow, MayReadShown, ReadsShown, object_of_read_set, object_row_read};
 
+use crate::ahead::RowsAhead;
 use crate::objects::{view_of, with_files};
 use crate::segments::numbers_of;
 use dep_answers::{FileId, ReadSet, Shown};
-use dep_files::{find_file, load_files, load_sha512s};
-use dep_objects::{DescribedObject, TextsAhead, describe, find_object};
+use dep_files::{FilesAhead, find_file, load_files, load_hashed_files};
+use dep_objects::{DescribedObject, describe, find_object};
 use dep_staging::{FoundUpload, load_upload};
 use dep_tables::Statements;
 use dep_types::{List, Metadata, ObjectRow, ObjectView, StoreFault};
 use std::alloc::Global;
 
-// The object of this row, with its files.
+// The object of this row, with its files, which may have been read ahead.
 fn show_listed<T: Statements>(
     tx: &mut T,
     alloc: Global,
+    files: &mut FilesAhead,
     row: ObjectRow,
 ) -> Result<Shown, StoreFault>
     ensures does { ReadsShown T.lenders T.state tx.old tx.new result
-        (read_set.Files row.object) (λ s. HasRow s row) }
+        (read_set.Files row.object) (λ s. HasRow s row × AreFilesAhead s files.old) }
+    ensures files { (s : State) → AreFilesAhead s files.old → AreFilesAhead s files.new }
 {
-    let files = load_files(tx, alloc, row.object)?;
+    let listed = load_files(tx, alloc, files, &row)?;
     Ok(Shown::Files(ObjectView {
         object: row,
         metadata: Metadata::new(alloc),
-        files,
+        files: listed,
         sha512s: List::empty(alloc),
     }))
 }
 
-// The object of this row, with its files and their SHA-512 values.
+// The object of this row, with its files and their SHA-512 values, which may have been read ahead.
 fn show_hashed<T: Statements>(
     tx: &mut T,
     alloc: Global,
+    files: &mut FilesAhead,
     row: ObjectRow,
 ) -> Result<Shown, StoreFault>
     ensures does { ReadsShown T.lenders T.state tx.old tx.new result
-        (read_set.Payload row.object) (λ s. HasRow s row) }
+        (read_set.Payload row.object) (λ s. HasRow s row × AreFilesAhead s files.old) }
+    ensures files { (s : State) → AreFilesAhead s files.old → AreFilesAhead s files.new }
 {
-    let files = load_files(tx, alloc, row.object)?;
-    let sha512s = load_sha512s(tx, alloc, files.as_slice())?;
+    let hashed = load_hashed_files(tx, alloc, files, &row)?;
     Ok(Shown::Files(ObjectView {
         object: row,
         metadata: Metadata::new(alloc),
-        files,
-        sha512s,
+        files: hashed.rows,
+        sha512s: hashed.sha512s,
     }))
 }
 
@@ -77,22 +82,23 @@ fn show_upload<T: Statements>(tx: &mut T, alloc: Global, upload: u64) -> Result<
     }
 }
 
-// What is told of the object of this row, of which texts may have been read ahead.
+// What is told of the object of this row, of which texts and files may have been read ahead.
 fn show_rest<T: Statements>(
     tx: &mut T,
     alloc: Global,
-    texts: &mut TextsAhead,
+    rows: &mut RowsAhead,
     row: ObjectRow,
 ) -> Result<Shown, StoreFault>
     ensures does { ReadsShown T.lenders T.state tx.old tx.new result
-        (read_set.Object row.object) (λ s. HasRow s row × AreReadAhead s texts.old) }
-    ensures texts { (s : State) → AreReadAhead s texts.old → AreReadAhead s texts.new }
+        (read_set.Object row.object) (λ s. HasRow s row × AreRowsAhead s rows.old) }
+    ensures rows { (s : State) → AreRowsAhead s rows.old → AreRowsAhead s rows.new }
 {
-    if let Some(metadata) = texts.take(&row) {
-        let view = with_files(tx, alloc, DescribedObject { row, metadata })?;
+    if let Some(metadata) = rows.texts.take(&row) {
+        let described = DescribedObject { row, metadata };
+        let view = with_files(tx, alloc, &mut rows.files, described)?;
         return Ok(Shown::Object(view));
     }
-    let view = view_of(tx, alloc, row)?;
+    let view = view_of(tx, alloc, &mut rows.files, row)?;
     Ok(Shown::Object(view))
 }
 
@@ -100,14 +106,14 @@ fn show_rest<T: Statements>(
 fn show_texts<T: Statements>(
     tx: &mut T,
     alloc: Global,
-    texts: &mut TextsAhead,
+    rows: &mut RowsAhead,
     row: ObjectRow,
 ) -> Result<Shown, StoreFault>
     ensures does { MayReadShown T.lenders T.state tx.old tx.new result
-        (read_set.Metadata row.object) (λ s. HasRow s row × AreReadAhead s texts.old) }
-    ensures texts { (s : State) → AreReadAhead s texts.old → AreReadAhead s texts.new }
+        (read_set.Metadata row.object) (λ s. HasRow s row × AreRowsAhead s rows.old) }
+    ensures rows { (s : State) → AreRowsAhead s rows.old → AreRowsAhead s rows.new }
 {
-    if let Some(metadata) = texts.take(&row) {
+    if let Some(metadata) = rows.texts.take(&row) {
         return Ok(Shown::Metadata {
             object: row,
             metadata,
@@ -153,19 +159,19 @@ fn row_of<T: Statements>(
 fn show_object<T: Statements>(
     tx: &mut T,
     alloc: Global,
-    texts: &mut TextsAhead,
+    rows: &mut RowsAhead,
     read_set: &ReadSet,
     row: ObjectRow,
 ) -> Result<Shown, StoreFault>
     ensures does { MayReadShown T.lenders T.state tx.old tx.new result read_set.now
-        (λ s. (Some row ≡ object_row_read s read_set.now) × AreReadAhead s texts.old) }
-    ensures texts { (s : State) → AreReadAhead s texts.old → AreReadAhead s texts.new }
+        (λ s. (Some row ≡ object_row_read s read_set.now) × AreRowsAhead s rows.old) }
+    ensures rows { (s : State) → AreRowsAhead s rows.old → AreRowsAhead s rows.new }
 {
     match *read_set {
-        ReadSet::Object(_) => show_rest(tx, alloc, texts, row),
-        ReadSet::Payload(_) => show_hashed(tx, alloc, row),
-        ReadSet::Files(_) => show_listed(tx, alloc, row),
-        ReadSet::Metadata(_) => show_texts(tx, alloc, texts, row),
+        ReadSet::Object(_) => show_rest(tx, alloc, rows, row),
+        ReadSet::Payload(_) => show_hashed(tx, alloc, &mut rows.files, row),
+        ReadSet::Files(_) => show_listed(tx, alloc, &mut rows.files, row),
+        ReadSet::Metadata(_) => show_texts(tx, alloc, rows, row),
         _ => Ok(Shown::ObjectRow(row)),
     }
 }
@@ -187,21 +193,21 @@ fn show_other<T: Statements>(
 }
 
 /// What a reply shows, read of the archive; nothing where nothing is there. Where the known row, which the archive has, is the
-/// object's, it is not read again, nor are the texts of its metadata where they were read ahead: these are taken out. No content
-/// is read. A number of 2^63 or more is a fault of the store.
+/// object's, it is not read again, nor are its texts and files that were read ahead: these are taken out. No content is read. A
+/// number of 2^63 or more is a fault of the store.
 pub fn load_shown<T: Statements>(
     tx: &mut T,
     alloc: Global,
-    texts: &mut TextsAhead,
+    rows: &mut RowsAhead,
     read_set: &ReadSet,
     known: Option<ObjectRow>,
 ) -> Result<Shown, StoreFault>
     ensures does { MayReadShown T.lenders T.state tx.old tx.new result read_set.now
-        (λ s. IfSome known (HasRow s) × AreReadAhead s texts.old) }
-    ensures texts { (s : State) → AreReadAhead s texts.old → AreReadAhead s texts.new }
+        (λ s. IfSome known (HasRow s) × AreRowsAhead s rows.old) }
+    ensures rows { (s : State) → AreRowsAhead s rows.old → AreRowsAhead s rows.new }
 {
     match row_of(tx, read_set, known)? {
-        Some(row) => show_object(tx, alloc, texts, read_set, row),
+        Some(row) => show_object(tx, alloc, rows, read_set, row),
         None => show_other(tx, alloc, read_set),
     }
 }

@@ -18,7 +18,7 @@ returns-clause-map g c clean inside ours s are sound =
     let same = c.in_ok-row.ensures.does.keeps.same before ours in
     let found = sym c.in-Some.is ∙ c.in_ok-row.ensures.does.map before ours s are in
     subst (λ (n : ℕ). IsViewOf s n c.in_ok-view.view) (its_number s c.args.object c.in-Some.row found)
-    (c.in_ok-view.ensures.map.found clean (c.in_ok-row.ensures.does.keeps.stays.inside before inside) (still_ours old mid same ours) s (still_seen old mid s same are) sound (has_row s c.args.object c.in-Some.row found))
+    (c.in_ok-view.ensures.map.found clean (c.in_ok-row.ensures.does.keeps.stays.inside before inside) (still_ours old mid same ours) s (still_seen old mid s same are) sound (c.new-none.ensures s) (has_row s c.args.object c.in-Some.row found))
 
 pub returns-in_err-view-clause-keeps : goal.returns-in_err-view-clause-keeps
 returns-in_err-view-clause-keeps g c = reads_err c.from_residual-in_err-view.ensures.0 (reads_then c.in_ok-row.ensures.does.keeps c.view_of.ensures.map.keeps)

@@ -17,22 +17,24 @@ returns g c =
     let two = c.with_files.ensures.map in
     record {
       map = record {
-        found = λ clean inside ours s are sound has.
+        found = λ clean inside ours s are sound ahead has.
             let earlier = clean_before two.keeps.stays clean in
             let its = one.found earlier inside ours s are sound has in
             let same = one.keeps.same earlier ours in
             let number = described_number s c.args.row.object c.in_ok-described.described its in
             subst (λ (n : ℕ). IfOk c.with_files.result (IsViewOf s n)) number
-            (two.found clean (one.keeps.stays.inside earlier inside) (still_ours old mid same ours) s (still_seen old mid s same are) sound
+            (two.found clean (one.keeps.stays.inside earlier inside) (still_ours old mid same ours) s (still_seen old mid s same are) sound ahead
             (subst (λ (n : ℕ). IsDescribed s n c.in_ok-described.described) (sym number) its));
         keeps = reads_then one.keeps two.keeps;
       };
+      files = c.with_files.ensures.files;
     }
 
 pub returns-in_err-described : goal.returns-in_err-described
 returns-in_err-described g c = record {
   map = record {
-    found = λ clean inside ours s are sound has. IfOk-from_err c.from_residual.result _ c.from_residual.ensures.0;
+    found = λ clean inside ours s are sound ahead has. IfOk-from_err c.from_residual.result _ c.from_residual.ensures.0;
     keeps = reads_err c.from_residual.ensures.0 c.in_err-described.ensures.does.keeps;
   };
+  files = λ s are. are;
 }

@@ -8,13 +8,17 @@ pub returns : goal.returns
 returns g c = record {
   does = record {
     map = record {
-      found = λ clean inside ours s are sound has.
-          (λ i. shown.Files (record { object = c.args.row; metadata = c.new.ensures i; files = c.in_ok-files.files; sha512s = c.empty.ensures i }))
-          ∙ listed_shown (λ _. []) s c.args.row c.in_ok-files.files has (c.in_ok-files.ensures.does.map clean ours s are);
-      keeps = reads_ok c.in_ok-files.ensures.does.keeps;
+      found = λ clean inside ours s are sound told.
+          (λ i. shown.Files (record { object = c.args.row; metadata = c.new.ensures i; files = c.in_ok-listed.listed; sha512s = c.empty.ensures i }))
+          ∙ listed_shown (λ _. []) s c.args.row c.in_ok-listed.listed told.0 (c.in_ok-listed.ensures.does.map clean ours s are told.0 told.1);
+      keeps = reads_ok c.in_ok-listed.ensures.does.keeps;
     };
   };
+  files = c.in_ok-listed.ensures.left;
 }
 
-pub returns-in_err-files : goal.returns-in_err-files
-returns-in_err-files g c = record { does = shown_failed c.from_residual.ensures.0 (reads_err c.from_residual.ensures.0 c.in_err-files.ensures.does.keeps) }
+pub returns-in_err-listed : goal.returns-in_err-listed
+returns-in_err-listed g c = record {
+  does = shown_failed c.from_residual.ensures.0 (reads_err c.from_residual.ensures.0 c.in_err-listed.ensures.does.keeps);
+  files = c.in_err-listed.ensures.left;
+}

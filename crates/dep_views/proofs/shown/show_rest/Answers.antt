@@ -13,11 +13,11 @@ returns-in-Some g c = record {
       found = λ clean inside ours s are sound told.
           let n = c.args.row.object in
           some_shown (object_view n) (λ (v : ObjectView). shown.Object v) shown.Nothing (finmap.get s.objects n) c.in_ok-view.view
-          (c.in_ok-view.ensures.map.found clean inside ours s are sound (c.in-Some.ensures.taken s sound told.1 told.0));
+          (c.in_ok-view.ensures.map.found clean inside ours s are sound told.1.files (c.in-Some.ensures.taken s sound told.1.texts told.0));
       keeps = reads_ok c.in_ok-view.ensures.map.keeps;
     };
   };
-  texts = c.take.ensures.left;
+  rows = λ s are. record { texts = c.take.ensures.left s are.texts; files = c.in_ok-view.ensures.files s are.files };
 }
 
 pub returns : goal.returns
@@ -26,15 +26,15 @@ returns g c = record {
     map = record {
       found = λ clean inside ours s are sound told.
           let n = c.args.row.object in
-          some_shown (object_view n) (λ (v : ObjectView). shown.Object v) shown.Nothing (finmap.get s.objects n) c.in_ok-view-2.view (c.in_ok-view-2.ensures.map.found clean inside ours s are sound told.0);
+          some_shown (object_view n) (λ (v : ObjectView). shown.Object v) shown.Nothing (finmap.get s.objects n) c.in_ok-view-2.view (c.in_ok-view-2.ensures.map.found clean inside ours s are sound told.1.files told.0);
       keeps = reads_ok c.in_ok-view-2.ensures.map.keeps;
     };
   };
-  texts = c.take.ensures.left;
+  rows = λ s are. record { texts = c.take.ensures.left s are.texts; files = c.in_ok-view-2.ensures.files s are.files };
 }
 
 pub returns-in_err-view : goal.returns-in_err-view
 returns-in_err-view g c = record {
   does = shown_failed c.from_residual.ensures.0 (reads_err c.from_residual.ensures.0 c.in_err-view.ensures.map.keeps);
-  texts = c.take.ensures.left;
+  rows = λ s are. record { texts = c.take.ensures.left s are.texts; files = c.in_err-view.ensures.files s are.files };
 }

@@ -10,8 +10,8 @@ pub returns-in-Some : goal.returns-in-Some
 returns-in-Some g c = record {
   does = shown_at_once _ (λ s sound told.
       some_shown (described_object c.args.row.object) (λ (d : DescribedObject). shown.Metadata d.row d.metadata) shown.Nothing (finmap.get s.objects c.args.row.object) (record { row = c.args.row; metadata = c.in-Some.metadata })
-      (c.in-Some.ensures.taken s sound told.1 told.0));
-  texts = c.take.ensures.left;
+      (c.in-Some.ensures.taken s sound told.1.texts told.0));
+  rows = λ s are. record { texts = c.take.ensures.left s are.texts; files = are.files };
 }
 
 pub returns : goal.returns
@@ -25,11 +25,11 @@ returns g c = record {
       keeps = reads_ok c.in_ok-described.ensures.does.keeps;
     };
   });
-  texts = c.take.ensures.left;
+  rows = λ s are. record { texts = c.take.ensures.left s are.texts; files = are.files };
 }
 
 pub returns-in_err-described : goal.returns-in_err-described
 returns-in_err-described g c = record {
   does = may_shown (shown_failed c.from_residual.ensures.0 (reads_err c.from_residual.ensures.0 c.in_err-described.ensures.does.keeps));
-  texts = c.take.ensures.left;
+  rows = λ s are. record { texts = c.take.ensures.left s are.texts; files = are.files };
 }

@@ -2,7 +2,7 @@ use Rattle.std.proofs.Common.{◌∙◌}
 use Rattle.dep_tables.specs.Tables.{tables_of}
 use Rattle.dep_row_maps.proofs.Calling.{queried_ok, reads_failed}
 use Rattle.dep_row_maps.proofs.Readings.{files_read}
-use Rattle.dep_files.proofs.loading.load_files.Goals as goal
+use Rattle.dep_files.proofs.loading.load_all.Goals as goal
 
 pub returns : goal.returns
 returns g c = record {
