@@ -1,9 +1,7 @@
 //! What is done ahead of requests.
 
-ghost use Rattle.std.specs.Prelude.{IfSome};
 ghost use Rattle.dep_types.specs.State.{State};
 ghost use Rattle.dep_types.specs.Sound.{IsSound};
-ghost use Rattle.dep_row_maps.specs.Stored.{HasRow};
 ghost use Rattle.dep_views.specs.Ahead.{AddsTo, AreRowsAhead, IsAhead};
 
 use dep_docs_in::ReferencesAhead;
@@ -43,12 +41,12 @@ impl RowsAhead {
 
     /// Takes the files that were read of an object before it was added to for the first of those that it has now, where both rows
     /// are known.
-    pub fn follow(&mut self, before: Option<&ObjectRow>, after: Option<&ObjectRow>)
+    pub fn follow(&mut self, before: Option<ObjectRow>, after: Option<ObjectRow>)
         ensures { (s t : State) → IsSound t → AreRowsAhead s self.old → AreRowsAhead t self.old
             → AddsTo s t before after → AreRowsAhead t self.new }
     {
         if let (Some(before), Some(after)) = (before, after) {
-            self.files.follow(before, after);
+            self.files.follow(&before, &after);
         }
     }
 }
