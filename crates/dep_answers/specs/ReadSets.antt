@@ -58,11 +58,13 @@ read_set_of next (File n f) Put = read_set.File (record { object = n; file = f }
 read_set_of next Staging Post = read_set.Upload (next.upload - 1)
 read_set_of next resource method = read_set.Nothing
 
--- all the texts of an object's metadata are read
-abbrev pub reads_texts : ReadSet → Bool
-reads_texts (read_set.Object n) = true
-reads_texts (read_set.Metadata n) = true
-reads_texts reads = false
+-- as many rows are read as an object has texts or files
+abbrev pub reads_many_rows : ReadSet → Bool
+reads_many_rows (read_set.Object n) = true
+reads_many_rows (read_set.Payload n) = true
+reads_many_rows (read_set.Files n) = true
+reads_many_rows (read_set.Metadata n) = true
+reads_many_rows reads = false
 
 -- an object with its files, as it is shown where no metadata is read
 abbrev pub payload_view : ℕ → Kept → ObjectView

@@ -64,7 +64,7 @@ pub enum Shown {
 
 impl ReadSet {
     ghost use Rattle.std.specs.Prelude.{◌≡◌};
-    ghost use Rattle.dep_answers.specs.ReadSets.{read_set_at, read_set_of, reads_texts};
+    ghost use Rattle.dep_answers.specs.ReadSets.{read_set_at, read_set_of, reads_many_rows};
 
     /// Returns what has to be read for the reply to a request that was accepted and carried out, where the
     /// next numbers are now these: an object or an upload that it made has the last number before them. It
@@ -98,11 +98,14 @@ impl ReadSet {
         }
     }
 
-    /// Whether all the texts of an object's metadata are read.
-    pub fn reads_texts(self) -> bool
-        ensures { result ≡ reads_texts self }
+    /// Whether all the texts of an object's metadata are read, or all its files.
+    pub fn reads_many_rows(self) -> bool
+        ensures { result ≡ reads_many_rows self }
     {
-        matches!(self, ReadSet::Object(_) | ReadSet::Metadata(_))
+        matches!(
+            self,
+            ReadSet::Object(_) | ReadSet::Payload(_) | ReadSet::Files(_) | ReadSet::Metadata(_)
+        )
     }
 }
 

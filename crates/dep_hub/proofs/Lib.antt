@@ -11,4 +11,4 @@ pub mod SourceLemmas
 mod KeptLemmas
 pub mod PreparingLemmas
 mod LookLemmas
-mod TextLemmas
+mod ManyRowLemmas

@@ -1,4 +1,4 @@
--- Requests that are prepared before they are answered: their uploads are hashed, or the texts that they show read.
+-- Requests that are prepared before they are answered: their uploads are hashed, or the texts or files that they show read.
 use Rattle.std.specs.Prelude.{◌≡◌, ◌⊎◌, ◌<◌, ◌≤◌, ℕ, ◌+◌, ◌&&◌, ◌||◌, nat_lt, Bool, true, false, List, length, get_or, Option, Some, None, codes, bytes_eq, if◌then◌else◌}
 use Rattle.dep_head.specs.Head.{HeadParts}
 use Rattle.dep_fields.specs.Reported.{fields_of}
@@ -9,12 +9,13 @@ use Rattle.dep_message.specs.Stream.{Request, FirstAt}
 use Rattle.dep_message.specs.declared.message.Message.{Message}
 use Rattle.dep_types.specs.Conditions.{Condition}
 use Rattle.dep_types.specs.declared.target.Resource.{Resource}
+use Rattle.dep_types.specs.declared.target.Resource.TheVariants.{Object}
 use Rattle.dep_types.specs.declared.target.Method.{Method}
-use Rattle.dep_types.specs.declared.target.Method.TheVariants.{Get, Head}
+use Rattle.dep_types.specs.declared.target.Method.TheVariants.{Get, Head, Post}
 use Rattle.dep_router.specs.Targets.{target}
 use Rattle.dep_router.specs.declared.routed.Routed.{Routed}
 use Rattle.dep_router.specs.declared.routed.Routed.TheVariants.{To, NotFound, NotAllowed}
-use Rattle.dep_answers.specs.ReadSets.{read_set_at, reads_texts}
+use Rattle.dep_answers.specs.ReadSets.{read_set_at, reads_many_rows}
 use Rattle.dep_exchange.specs.Archives.{CommitsIfDue, KeepsEachState}
 use Rattle.dep_exchange.specs.ArchiveCalls.{CallLog, Runs, WorkedAhead}
 use Rattle.dep_hub.specs.declared.connections.Connection.{Connection}
@@ -27,25 +28,27 @@ names_uploads head =
     (bytes_eq head.method (codes "POST") || bytes_eq head.method (codes "PUT"))
     && is_by_reference (fields_of head.fields).disposition
 
--- a reply to a GET or a HEAD is made of all the texts of an object's metadata
-abbrev pub texts_shown_to : Resource → Method → Bool
-texts_shown_to resource Get = reads_texts (read_set_at resource false)
-texts_shown_to resource Head = reads_texts (read_set_at resource true)
-texts_shown_to resource method = false
+-- a reply is made of all the texts of an object's metadata or of all its files: to a GET or a HEAD that shows them, or to
+-- a POST to an object
+abbrev pub many_rows_shown_to : Resource → Method → Bool
+many_rows_shown_to resource Get = reads_many_rows (read_set_at resource false)
+many_rows_shown_to resource Head = reads_many_rows (read_set_at resource true)
+many_rows_shown_to (Object n) Post = true
+many_rows_shown_to resource method = false
 
 -- so is the reply to what a head names
-abbrev pub texts_shown_by : Routed → Bool
-texts_shown_by (To t) = texts_shown_to t.resource t.method
-texts_shown_by NotFound = false
-texts_shown_by (NotAllowed methods) = false
+abbrev pub many_rows_shown_by : Routed → Bool
+many_rows_shown_by (To t) = many_rows_shown_to t.resource t.method
+many_rows_shown_by NotFound = false
+many_rows_shown_by (NotAllowed methods) = false
 
 -- so to the request of a head
-abbrev pub shows_texts : HeadParts → Bool
-shows_texts head = texts_shown_by (target head.method head.path)
+abbrev pub shows_many_rows : HeadParts → Bool
+shows_many_rows head = many_rows_shown_by (target head.method head.path)
 
 -- a request is prepared first
 abbrev pub is_prepared_first : HeadParts → Bool
-is_prepared_first head = names_uploads head || shows_texts head
+is_prepared_first head = names_uploads head || shows_many_rows head
 
 -- so is the next one, which has come whole
 abbrev pub IsPreparedFirst : Reading → Type 0

@@ -220,7 +220,7 @@ impl<A: Archive> Hub<A> {
     ///
     /// And so it is, before that, where the next request has come whole and is prepared first, by `work_ahead`, a part each
     /// time: where it names uploads these are hashed, and where its reply is made of all the texts of an object's metadata
-    /// these are read. Behind that it is answered, or waits as the others.
+    /// or of all its files these are read. Behind that it is answered, or waits as the others.
     pub fn reply<O: Outlet, L: AccessLog>(
         &mut self,
         connection: ConnId,
@@ -238,7 +238,7 @@ impl<A: Archive> Hub<A> {
             → KeepsBack A.condition (O.taken out.old) (O.taken out.new) (O.failures out.old) (O.failures out.new)
             self.old self.new connection }
         ensures free { IfSome result (λ _. NextIsFree self.old connection) }
-        // What names uploads or shows all texts is prepared first.
+        // What names uploads, or shows all texts or files, is prepared first.
         ensures prepared { IfSome result (λ _. NextIsPrepared self.old connection) }
         // What is behind an answer isn't broken off.
         ensures unbroken { IfSome result (λ _.
@@ -387,9 +387,9 @@ impl<A: Archive> Hub<A> {
     }
 
     /// Does a part of the work that a later request would have to wait for, and returns whether more is left
-    /// (`Archive::work_ahead`). Where requests are kept back until the uploads that they name are hashed, or the texts that
-    /// they show are read, it is a part of that, for each of them in turn; such a one is answered by `reply` once no more of it
-    /// is left, or so many steps were made as may be. It is no event of a run.
+    /// (`Archive::work_ahead`). Where requests are kept back until the uploads that they name are hashed, or the texts or files
+    /// that they show are read, it is a part of that, for each of them in turn; such a one is answered by `reply` once no more
+    /// of it is left, or so many steps were made as may be. It is no event of a run.
     pub fn work_ahead(&mut self) -> bool
         ensures asked { Runs (WorkedAhead result) (A.call_log self.old.store)
             (A.call_log self.new.store) }

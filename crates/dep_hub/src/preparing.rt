@@ -1,5 +1,5 @@
-//! Requests that are prepared before they are answered: the uploads that they name are hashed, or the texts that they show
-//! read, in steps.
+//! Requests that are prepared before they are answered: the uploads that they name are hashed, or the texts or files that
+//! they show read, in steps.
 ghost use Rattle.std.specs.Prelude.{◌≡◌, true};
 ghost use Rattle.dep_hub.specs.Preparing.{MakesStepFor, Works, is_preparing};
 
@@ -14,8 +14,8 @@ use dep_router::Routed;
 use dep_types::Target;
 use std::alloc::AllocError;
 
-/// How many steps may be made for a request. A step hashes 16 blocks at most, a mebibyte, or reads some texts, so these are
-/// far more than one needs.
+/// How many steps may be made for a request. A step hashes 16 blocks at most, a mebibyte, or reads some texts or files, so
+/// these are far more than one needs.
 pub(crate) const MOST_STEPS: u32 = 16_777_216;
 
 /// Has an archive work ahead for a request.
