@@ -1,14 +1,18 @@
 //! What is done ahead of requests.
 
+ghost use Rattle.dep_row_maps.specs.Clauses.{MayReadOver};
+ghost use Rattle.dep_files.specs.Ahead.{AreFilesAhead};
 ghost use Rattle.dep_types.specs.State.{State};
 ghost use Rattle.dep_types.specs.Sound.{IsSound};
 ghost use Rattle.dep_views.specs.Ahead.{AddsTo, AreRowsAhead, IsAhead};
 
+use dep_answers::ReadSet;
 use dep_docs_in::ReferencesAhead;
-use dep_files::FilesAhead;
-use dep_objects::TextsAhead;
+use dep_files::{FilesAhead, read_files_ahead};
+use dep_objects::{TextsAhead, find_object, read_ahead};
 use dep_staging::RunningHashes;
-use dep_types::ObjectRow;
+use dep_tables::Statements;
+use dep_types::{ObjectRow, StoreFault};
 use std::alloc::Global;
 
 /// The rows of objects that were read before the requests that show them are answered.
@@ -48,6 +52,61 @@ impl RowsAhead {
         if let (Some(before), Some(after)) = (before, after) {
             self.files.follow(&before, &after);
         }
+    }
+}
+
+// Reads files of an object, if it is there.
+fn read_listed<T: Statements>(
+    tx: &mut T,
+    alloc: Global,
+    files: &mut FilesAhead,
+    object: u64,
+    with_sha512s: bool,
+) -> Result<bool, StoreFault>
+    ensures does { MayReadOver T.lenders T.state tx.old tx.new result
+        (λ s. IsSound s → AreFilesAhead s files.old → AreFilesAhead s files.new) }
+{
+    match find_object(tx, object)? {
+        Some(row) => read_files_ahead(tx, alloc, files, &row, with_sha512s),
+        None => Ok(false),
+    }
+}
+
+// Reads texts of an object, if it is there, and once all are read its files with their SHA-512 values.
+fn read_whole<T: Statements>(
+    tx: &mut T,
+    alloc: Global,
+    rows: &mut RowsAhead,
+    object: u64,
+) -> Result<bool, StoreFault>
+    ensures does { MayReadOver T.lenders T.state tx.old tx.new result
+        (λ s. IsSound s → AreRowsAhead s rows.old → AreRowsAhead s rows.new) }
+{
+    let are_texts_left = read_ahead(tx, alloc, &mut rows.texts, object)?;
+    if are_texts_left {
+        return Ok(true);
+    }
+    read_listed(tx, alloc, &mut rows.files, object, true)
+}
+
+/// Reads some of the texts or files of an object, if it is there, which a reply shows that needs all of them
+/// ([`load_shown`](crate::load_shown)). It returns whether more may be left: also where those of another object are read, whose
+/// request comes first. What was read is lost where it fails. A number of 2^63 or more is a fault of the store.
+pub fn read_rows_ahead<T: Statements>(
+    tx: &mut T,
+    alloc: Global,
+    rows: &mut RowsAhead,
+    read_set: &ReadSet,
+) -> Result<bool, StoreFault>
+    ensures does { MayReadOver T.lenders T.state tx.old tx.new result
+        (λ s. IsSound s → AreRowsAhead s rows.old → AreRowsAhead s rows.new) }
+{
+    match *read_set {
+        ReadSet::Metadata(object) => read_ahead(tx, alloc, &mut rows.texts, object),
+        ReadSet::Files(object) => read_listed(tx, alloc, &mut rows.files, object, false),
+        ReadSet::Payload(object) => read_listed(tx, alloc, &mut rows.files, object, true),
+        ReadSet::Object(object) => read_whole(tx, alloc, rows, object),
+        _ => Ok(false),
     }
 }
 

@@ -15,7 +15,7 @@ mod touching;
 mod uploads;
 mod view;
 
-pub use ahead::{RowsAhead, WorkAhead};
+pub use ahead::{RowsAhead, WorkAhead, read_rows_ahead};
 pub use digests::{hash_named, load_digests};
 pub use named::{NamedUploads, load_named};
 pub use objects::load_object_view;
