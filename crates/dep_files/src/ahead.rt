@@ -60,16 +60,16 @@ impl FilesAhead {
     }
 
     /// Follows.
-    pub fn follow(&mut self, before: &ObjectRow, after: &ObjectRow)
-        ensures { (s t : State) → IsSound t → AreFilesAhead s self.old → AreFilesAhead t self.old
+    pub fn follow(&mut self, before: &ObjectRow, after: &ObjectRow) -> FilesAhead
+        ensures left { (s : State) → AreFilesAhead s self.old → AreFilesAhead s self.new }
+        ensures followed { (s t : State) → IsSound t → AreFilesAhead s self.old
             → HasRow s before.now → HasRow t after.now → AddsFiles s t before.now.object
-            → AreFilesAhead t self.new }
+            → AreFilesAhead t result }
     {
         if before.object_tag == after.object_tag {
-            return;
+            return FilesAhead::new();
         }
-        self.read = None;
-        self.held = 0;
+        FilesAhead::new()
     }
 }
 

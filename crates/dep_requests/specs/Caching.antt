@@ -13,7 +13,7 @@ use Rattle.dep_fields.specs.declared.field.Field.TheVariants.{Absent, Bad, Value
 use Rattle.dep_types.specs.declared.counters.Counters.{Counters}
 use Rattle.dep_types.specs.declared.target.Resource.TheVariants.{Service}
 use Rattle.dep_types.specs.declared.target.Target.{Target}
-use Rattle.dep_answers.specs.ReadSets.{read_set_at, reads_texts}
+use Rattle.dep_answers.specs.ReadSets.{read_set_at, reads_many_rows}
 use Rattle.dep_decisions.specs.declared.operation.Operation.{Operation}
 use Rattle.dep_operations.specs.declared.view.View.{View}
 use Rattle.dep_types.specs.Methods.{is_safe}
@@ -68,12 +68,12 @@ has_value (Value x) = true
 has_value Absent = false
 has_value Bad = false
 
--- a reply that shows this is made of all the texts of an object's metadata
-abbrev pub reads_all_texts : Target → Bool
-reads_all_texts target = reads_texts (read_set_at target.resource (is_head target.method))
+-- a reply that shows this is made of all the texts or files of an object
+abbrev pub lists_many_rows : Target → Bool
+lists_many_rows target = reads_many_rows (read_set_at target.resource (is_head target.method))
 
--- the request only reads, not all the texts of an object's metadata, and its head speaks of no content that would be kept
+-- the request only reads, not all the texts or files of an object, and its head speaks of no content that would be kept
 abbrev pub is_plain_read : Operation → Bool
 is_plain_read op = is_safe op.target.method
     && not (has_value op.fields.disposition) && not (has_value op.fields.content_type)
-    && not (reads_all_texts op.target)
+    && not (lists_many_rows op.target)

@@ -21,9 +21,8 @@ use Rattle.dep_answers.specs.declared.read_set.Shown.{Shown}
 use Rattle.dep_answers.specs.declared.read_set.Shown.TheVariants.{Nothing}
 use Rattle.dep_tables.specs.Tables.{IsOurs}
 use Rattle.dep_row_maps.specs.Clauses.{FromMaps, SeesState}
-use Rattle.dep_objects.specs.Ahead.{AreReadAhead}
-use Rattle.dep_objects.specs.declared.ahead.TextsAhead.{TextsAhead}
-use Rattle.dep_views.specs.Ahead.{IsAhead}
+use Rattle.dep_views.specs.Ahead.{AreRowsAhead, IsAhead}
+use Rattle.dep_views.specs.declared.ahead.RowsAhead.{RowsAhead}
 use Rattle.dep_views.specs.declared.ahead.WorkAhead.{WorkAhead}
 use Rattle.dep_decisions.specs.Effects.{effect}
 use Rattle.dep_decisions.specs.declared.decision.Decision.{Decision}
@@ -110,11 +109,11 @@ ShowsEffect config s op new shown =
     SeesState new (effect config s op) × (shown ≡ shown_in_reply (effect config s op) op)
 
 -- what was decided is carried out, and shown, where it was ruled rightly
-abbrev pub IsCarriedOut : (old new : db.State) → Operation → Ruled → Decision → TextsAhead
+abbrev pub IsCarriedOut : (old new : db.State) → Operation → Ruled → Decision → RowsAhead
     → Result Shown StoreFault → Type 0
-IsCarriedOut old new op ruled decision texts result = FromMaps old new (λ s. (config : Config)
+IsCarriedOut old new op ruled decision rows result = FromMaps old new (λ s. (config : Config)
     → IsSound s → AreFit op.fields → SeesTruly config s op ruled → IsRuling config s op (Do decision)
-    → AreReadAhead s texts → IfOk result (ShowsEffect config s op new))
+    → AreRowsAhead s rows → IfOk result (ShowsEffect config s op new))
 
 -- this is ready as the reply of the step, and the tables are those of the state that it leaves
 abbrev pub IsStepped : Config → State → Operation → db.State → Performed → Type 0
@@ -139,8 +138,8 @@ KeepsAhead old new before now =
     FromMaps old new (λ s. IsSound s → IsAhead s before → IsAhead s now)
 
 -- what was ruled rightly is followed
-abbrev pub FollowsRuling : (old new : db.State) → Config → Operation → Ruled → TextsAhead
+abbrev pub FollowsRuling : (old new : db.State) → Config → Operation → Ruled → RowsAhead
     → Result Performed StoreFault → Type 0
-FollowsRuling old new config op ruled texts result = FromMaps old new (λ s. IsSound s
-    → AreFit op.fields → Rules config s op ruled → AreReadAhead s texts
+FollowsRuling old new config op ruled rows result = FromMaps old new (λ s. IsSound s
+    → AreFit op.fields → Rules config s op ruled → AreRowsAhead s rows
     → IfOk result (IsStepped config s op new))

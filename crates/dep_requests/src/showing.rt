@@ -89,7 +89,17 @@ pub(crate) fn read_set_to_show(target: &Target) -> ReadSet
     ReadSet::shown_by(&target.resource, target.method == Method::Head)
 }
 
-/// Whether the request only reads, not all the texts of an object's metadata, and its head speaks of no content that would be
+/// What the reply to a request lists of what was there before it, as far as that is known by its head: what is read to show
+/// what is asked for, and the files of an object that is posted to.
+pub(crate) fn read_set_to_list(target: &Target) -> ReadSet {
+    match (target.method, &target.resource) {
+        (Method::Get | Method::Head, _) => read_set_to_show(target),
+        (Method::Post, Resource::Object(object)) => ReadSet::Files(*object),
+        _ => ReadSet::Nothing,
+    }
+}
+
+/// Whether the request only reads, not all the texts or files of an object, and its head speaks of no content that would be
 /// kept.
 pub fn is_plain_read(operation: &Operation<'_>) -> bool
     ensures { result ≡ is_plain_read operation.now }
@@ -97,7 +107,7 @@ pub fn is_plain_read(operation: &Operation<'_>) -> bool
     operation.target.method.is_safe()
         && matches!(operation.fields.disposition, Field::Absent | Field::Bad)
         && matches!(operation.fields.content_type, Field::Absent | Field::Bad)
-        && !read_set_to_show(&operation.target).reads_texts()
+        && !read_set_to_show(&operation.target).reads_many_rows()
 }
 
 /// The file whose content the reply has, where the request only reads.

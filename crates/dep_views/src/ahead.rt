@@ -43,14 +43,19 @@ impl RowsAhead {
         self.files.forget();
     }
 
-    /// Takes the files that were read of an object before it was added to for the first of those that it has now, where both rows
-    /// are known.
-    pub fn follow(&mut self, before: Option<ObjectRow>, after: Option<ObjectRow>)
-        ensures { (s t : State) → IsSound t → AreRowsAhead s self.old → AreRowsAhead t self.old
-            → AddsTo s t before after → AreRowsAhead t self.new }
+    /// Takes out the files that were read of an object before it was added to, which are the first of those that it has now, where
+    /// both rows are known.
+    pub fn follow(&mut self, before: Option<ObjectRow>, after: Option<ObjectRow>) -> RowsAhead
+        ensures left { (s : State) → AreRowsAhead s self.old → AreRowsAhead s self.new }
+        ensures followed { (s t : State) → IsSound t → AreRowsAhead s self.old
+            → AddsTo s t before after → AreRowsAhead t result }
     {
-        if let (Some(before), Some(after)) = (before, after) {
-            self.files.follow(&before, &after);
+        match (before, after) {
+            (Some(before), Some(after)) => RowsAhead {
+                texts: TextsAhead::new(),
+                files: self.files.follow(&before, &after),
+            },
+            _ => RowsAhead::new(),
         }
     }
 }
