@@ -17,6 +17,9 @@ use Rattle.dep_decisions.specs.declared.decision.Decision.TheVariants.{Show, Cre
 use Rattle.dep_answers.specs.ReadSets.{files_view}
 use Rattle.dep_answers.specs.declared.read_set.Shown.{Shown}
 use Rattle.dep_answers.specs.declared.read_set.Shown.TheVariants as shown
+use Rattle.dep_types.specs.declared.config.Config.{Config}
+use Rattle.dep_decisions.specs.declared.operation.Operation.{Operation}
+use Rattle.dep_operations.specs.Views.{touched_by, true_view}
 use Rattle.dep_operations.specs.declared.view.View.{View}
 use Rattle.dep_row_maps.specs.Stored.{HasRow}
 use Rattle.dep_objects.proofs.Puts.{has_row}
@@ -127,3 +130,15 @@ has_known s content d (Some was) known is = subst (λ (x : Option ObjectRow). If
     has (Append n d ingests) = found (effect_of s content (Append n d ingests)) _ refl
     has (Complete n) = found (effect_of s content (Complete n)) _ refl
     has _ = tt
+
+-- and the state before had the row that was looked at
+pub seen_has : (config : Config) (s : State) (op : Operation) (view : View) → view ≡ true_view config s op → IfSome view.object (HasRow s)
+seen_has config s op view is = go (touched_by config op).object view.object (ap (λ (v : View). v.object) is)
+  where
+    found : (row : Option ObjectRow) (n : ℕ) → row ≡ option_map (object_row n) (finmap.get s.objects n) → IfSome row (HasRow s)
+    found None n at = tt
+    found (Some row) n at = has_row s n row at
+
+    go : (looked : Option ℕ) (row : Option ObjectRow) → row ≡ (looked >>= (λ n. option_map (object_row n) (finmap.get s.objects n))) → IfSome row (HasRow s)
+    go None row at = subst (λ (x : Option ObjectRow). IfSome x (HasRow s)) (sym at) tt
+    go (Some n) row at = found row n at

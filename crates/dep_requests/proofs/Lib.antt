@@ -15,3 +15,4 @@ pub mod LookingUp
 pub mod KnownReplies
 pub mod CacheLemmas
 pub mod AheadStill
+pub mod FilesBehind

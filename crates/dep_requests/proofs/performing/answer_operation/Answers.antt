@@ -1,6 +1,6 @@
 use Rattle.std.proofs.Common.{subst, sym}
 use Rattle.sqlite.specs.State.{HasCleanDisk}
-use Rattle.dep_objects.specs.Ahead.{AreReadAhead}
+use Rattle.dep_views.specs.Ahead.{AreRowsAhead}
 use Rattle.dep_tables.specs.Tables.{HasOurTables}
 use Rattle.dep_tables.proofs.Chains.{clean_before, reads_ours, stays_err, stays_ok, stays_then}
 use Rattle.dep_requests.proofs.Stepping.{only_reads, reads_alike, sees_still}
@@ -19,7 +19,7 @@ returns-clause-does g c =
       map = λ clean within ours s are sound ahead fit.
           let rules = rw c.config.ensures at (ruled.found (before clean) within ours s are sound ahead.hashes).1 in
           reported.map.done clean (ruled.keeps.stays.inside (before clean) within) (reads_ours ruled.keeps (before clean) within ours) s
-          (sees_still old mid s (ruled.keeps.same (before clean) ours).0.now_is are) sound fit rules (subst (AreReadAhead s) (sym c.in_ok-ruled.ensures.texts) ahead.texts);
+          (sees_still old mid s (ruled.keeps.same (before clean) ours).0.now_is are) sound fit rules (subst (AreRowsAhead s) (sym c.in_ok-ruled.ensures.rows) ahead.rows);
       changes = λ clean within ours s are sound ahead.
           let rules = rw c.config.ensures at (ruled.found (before clean) within ours s are sound ahead.hashes).1 in (
             λ none. reads_alike c.args.service.now s c.args.operation.now _ rules.ruling (c.lets_change-has_changes.ensures.0 none),
@@ -46,17 +46,17 @@ returns-in_err-performed-clause-stays g c =
 pub returns-clause-ahead : goal.returns-clause-ahead
 returns-clause-ahead g c clean within ours s are sound ahead = record {
   hashes = (c.in_ok-ruled.ensures.map.found (clean_before c.in_ok-performed.ensures.map.keeps.stays clean) within ours s are sound ahead.hashes).0;
-  texts = c.in_ok-performed.ensures.texts s (subst (AreReadAhead s) (sym c.in_ok-ruled.ensures.texts) ahead.texts);
+  rows = c.in_ok-performed.ensures.rows s (subst (AreRowsAhead s) (sym c.in_ok-ruled.ensures.rows) ahead.rows);
 }
 
 pub returns-in_err-ruled-clause-ahead : goal.returns-in_err-ruled-clause-ahead
 returns-in_err-ruled-clause-ahead g c clean within ours s are sound ahead = record {
   hashes = (c.rule.ensures.map.found clean within ours s are sound ahead.hashes).0;
-  texts = subst (AreReadAhead s) (sym c.rule.ensures.texts) ahead.texts;
+  rows = subst (AreRowsAhead s) (sym c.rule.ensures.rows) ahead.rows;
 }
 
 pub returns-in_err-performed-clause-ahead : goal.returns-in_err-performed-clause-ahead
 returns-in_err-performed-clause-ahead g c clean within ours s are sound ahead = record {
   hashes = (c.in_ok-ruled.ensures.map.found (clean_before c.in_err-performed.ensures.map.keeps.stays clean) within ours s are sound ahead.hashes).0;
-  texts = c.in_err-performed.ensures.texts s (subst (AreReadAhead s) (sym c.in_ok-ruled.ensures.texts) ahead.texts);
+  rows = c.in_err-performed.ensures.rows s (subst (AreRowsAhead s) (sym c.in_ok-ruled.ensures.rows) ahead.rows);
 }

@@ -12,7 +12,7 @@ returns g c =
     let more = c.hash_loaded-hashed.ensures.does in
     record {
       does = record {
-        map = λ is_open clean ours s are sound ahead. record { hashes = over_behind (may_ok read) more is_open clean ours s are sound ahead.hashes; texts = ahead.texts };
+        map = λ is_open clean ours s are sound ahead. record { hashes = over_behind (may_ok read) more is_open clean ours s are sound ahead.hashes; rows = ahead.rows };
         keeps = may_then read more.keeps;
       };
     }
@@ -20,7 +20,7 @@ returns g c =
 pub returns-in_err-loaded : goal.returns-in_err-loaded
 returns-in_err-loaded g c = record {
   does = record {
-    map = λ is_open clean ours s are sound ahead. record { hashes = ahead.hashes; texts = ahead.texts };
+    map = λ is_open clean ours s are sound ahead. record { hashes = ahead.hashes; rows = ahead.rows };
     keeps = may_err c.from_residual-in_err-loaded.ensures.0 (may_read c.in_err-loaded.ensures.map.keeps);
   };
 }

@@ -1,13 +1,22 @@
-use Rattle.dep_tables.proofs.Chains.{may_read}
+use Rattle.dep_tables.proofs.Chains.{clean_before, may_err, may_ok, may_then}
+use Rattle.dep_views.proofs.Chains.{over_behind}
 use Rattle.dep_requests.proofs.performing.prepare.Goals as goal
 
-pub returns-in-Some : goal.returns-in-Some
-returns-in-Some g c = record {
-  does = record {
-    map = λ is_open clean ours s are sound ahead. record { hashes = ahead.hashes; texts = c.read_ahead.ensures.does.map clean ours s are sound ahead.texts };
-    keeps = may_read c.read_ahead.ensures.does.keeps;
-  };
-}
+pub returns : goal.returns
+returns g c =
+    let one = c.in_ok-is_left.ensures.does in
+    let more = c.read_rows_ahead.ensures.does in
+    record {
+      does = record {
+        map = λ is_open clean ours s are sound ahead.
+            let first = one.map is_open (clean_before more.keeps.stays clean) ours s are sound ahead in
+            record { hashes = first.hashes; rows = over_behind (may_ok one.keeps) more is_open clean ours s are sound first.rows };
+        keeps = may_then one.keeps more.keeps;
+      };
+    }
 
-pub returns-in-None : goal.returns-in-None
-returns-in-None g c = record { does = c.hash_for.ensures.does }
+pub returns-then-is_left : goal.returns-then-is_left
+returns-then-is_left g c = record { does = record { map = c.in_ok-is_left.ensures.does.map; keeps = may_ok c.in_ok-is_left.ensures.does.keeps } }
+
+pub returns-in_err-is_left : goal.returns-in_err-is_left
+returns-in_err-is_left g c = record { does = record { map = c.in_err-is_left.ensures.does.map; keeps = may_err c.from_residual.ensures.0 c.in_err-is_left.ensures.does.keeps } }
