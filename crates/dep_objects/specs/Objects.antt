@@ -24,10 +24,6 @@ object_of row texts files = record {
 abbrev pub described_object : ℕ → Object → DescribedObject
 described_object n o = record { row = object_row n o; metadata = o.metadata }
 
--- the object of the row is there, and has this row
-abbrev pub HasRow : State → ObjectRow → Type 0
-HasRow s row = Some row ≡ option_map (object_row row.object) (map.get s.objects row.object)
-
 -- the object of this number is there, and is the one that is described
 abbrev pub IsDescribed : State → ℕ → DescribedObject → Type 0
 IsDescribed s n found = Some found ≡ option_map (described_object n) (map.get s.objects n)

@@ -4,10 +4,10 @@ ghost use Rattle.std.specs.Prelude.{◌≡◌, ◌-◌, false, [], ◌∷◌, �
 ghost use Rattle.std.specs.List.{slice_get};
 ghost use Rattle.dep_types.specs.State.{State};
 ghost use Rattle.dep_types.specs.Sound.{IsSound};
-ghost use Rattle.dep_row_maps.specs.Stored.{metadata_rows};
+ghost use Rattle.dep_row_maps.specs.Stored.{HasRow, metadata_rows};
 ghost use Rattle.dep_row_maps.specs.TablesAre.{metadata_at};
 ghost use Rattle.dep_row_maps.specs.Clauses.{ReadsMaps, ReadsOver};
-ghost use Rattle.dep_objects.specs.Objects.{HasRow, IsDescribed};
+ghost use Rattle.dep_objects.specs.Objects.{IsDescribed};
 ghost use Rattle.dep_objects.specs.Ahead.{AreReadAhead, IsPage, AreTextsOf, KeepsRead, key_after};
 
 use crate::gathering::{NamedTexts, close, gather_rows};

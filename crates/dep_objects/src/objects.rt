@@ -6,7 +6,8 @@ ghost use Rattle.dep_types.specs.Rows.{object_row};
 ghost use Rattle.dep_types.specs.Sound.{IsSound};
 ghost use Rattle.dep_row_maps.specs.TablesAre.{files_at, with_object, without_object};
 ghost use Rattle.dep_row_maps.specs.Clauses.{FromMaps, SeesState, ChangesMaps, Finds, ReadsMaps, WritesMaps};
-ghost use Rattle.dep_objects.specs.Objects.{HasRow, IsDescribed, object_of, PutsRow};
+ghost use Rattle.dep_row_maps.specs.Stored.{HasRow};
+ghost use Rattle.dep_objects.specs.Objects.{IsDescribed, object_of, PutsRow};
 
 use crate::gathering::load_metadata;
 use dep_tables::{Statements, delete_metadata, insert_object};

@@ -18,7 +18,7 @@ use Rattle.dep_answers.specs.ReadSets.{files_view}
 use Rattle.dep_answers.specs.declared.read_set.Shown.{Shown}
 use Rattle.dep_answers.specs.declared.read_set.Shown.TheVariants as shown
 use Rattle.dep_operations.specs.declared.view.View.{View}
-use Rattle.dep_objects.specs.Objects.{HasRow}
+use Rattle.dep_row_maps.specs.Stored.{HasRow}
 use Rattle.dep_objects.proofs.Puts.{has_row}
 use Rattle.dep_requests.proofs.Appended.{ingested_after}
 use Rattle.dep_requests.specs.Known.{known_row, known_shown, row_in, row_left}

@@ -1,11 +1,12 @@
 -- The rows that each table has of the state.
-use Rattle.std.specs.Prelude.{ℕ, ◌+◌, zero, suc, Bool, not, Option, List, [], ◌∷◌, ◌++◌, length, take, drop, filter, fold, unwrap_or, map as each}
+use Rattle.std.specs.Prelude.{◌≡◌, ℕ, ◌+◌, zero, suc, Bool, not, Option, Some, option_map, List, [], ◌∷◌, ◌++◌, length, take, drop, filter, fold, unwrap_or, map as each}
 use Rattle.std.specs.Option.{option_to_list}
 use Rattle.std.specs.FinMap as map
 use Rattle.sqlite_value.specs.Order.{Row, column, bytes}
 use Rattle.dep_types.specs.Maps.{Numbered}
 use Rattle.dep_types.specs.State.{State, Object, File, Upload, Texts}
 use Rattle.dep_types.specs.Rows.{object_row, file_row, upload_row}
+use Rattle.dep_types.specs.declared.rows.ObjectRow.{ObjectRow}
 use Rattle.dep_tables.specs.Rowids.{has_number, put_next}
 use Rattle.dep_tables.specs.Rows.{stored_state, stored_object, stored_file, stored_upload, columns_of_upload, metadata_values, segment_values, block_values, value_in}
 use Rattle.dep_tables.specs.declared.owner.BlockOwner.TheVariants as owner
@@ -31,6 +32,10 @@ state_stored s = stored_state (state_row s)
 -- an object's row in its tree
 abbrev pub object_stored : ℕ → Object → Row
 object_stored n o = stored_object (object_row n o)
+
+-- the object of the row is there, and has this row
+abbrev pub HasRow : State → ObjectRow → Type 0
+HasRow s row = Some row ≡ option_map (object_row row.object) (map.get s.objects row.object)
 
 -- a file's row in its tree
 abbrev pub file_stored : (n f : ℕ) → File → Row

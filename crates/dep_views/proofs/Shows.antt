@@ -28,7 +28,7 @@ use Rattle.dep_staging.specs.declared.loading.FoundUpload.TheVariants as found
 use Rattle.dep_staging.specs.declared.loading.StagedUpload.{StagedUpload}
 use Rattle.dep_row_maps.specs.Clauses.{ReadsMaps}
 use Rattle.dep_row_maps.specs.TablesAre.{TablesAre, files_at}
-use Rattle.dep_objects.specs.Objects.{HasRow}
+use Rattle.dep_row_maps.specs.Stored.{HasRow}
 use Rattle.dep_objects.proofs.Puts.{has_row, its_number}
 use Rattle.dep_tables.specs.Clauses.{ReadsWithin}
 use Rattle.dep_tables.specs.Tables.{HasOurTables, tables_in}

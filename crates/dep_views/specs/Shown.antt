@@ -12,7 +12,7 @@ use Rattle.dep_types.specs.declared.store_fault.StoreFault.{StoreFault}
 use Rattle.dep_tables.specs.Clauses.{MayReadWithin}
 use Rattle.dep_tables.specs.Tables.{IsOurs}
 use Rattle.dep_row_maps.specs.Clauses.{Finds, FromMaps, MayFind}
-use Rattle.dep_objects.specs.Objects.{HasRow}
+use Rattle.dep_row_maps.specs.Stored.{HasRow}
 use Rattle.dep_answers.specs.ReadSets.{shown_at}
 use Rattle.dep_answers.specs.declared.read_set.ReadSet.{ReadSet}
 use Rattle.dep_answers.specs.declared.read_set.ReadSet.TheVariants as read_set

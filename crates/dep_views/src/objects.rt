@@ -6,7 +6,8 @@ ghost use Rattle.dep_types.specs.Sound.{IsSound};
 ghost use Rattle.dep_types.specs.Rows.{object_view};
 ghost use Rattle.dep_tables.specs.Clauses.{ReadsWithin};
 ghost use Rattle.dep_row_maps.specs.Clauses.{Finds, FromMaps};
-ghost use Rattle.dep_objects.specs.Objects.{HasRow, IsDescribed};
+ghost use Rattle.dep_row_maps.specs.Stored.{HasRow};
+ghost use Rattle.dep_objects.specs.Objects.{IsDescribed};
 ghost use Rattle.dep_views.specs.Shown.{IsViewOf};
 
 use dep_files::{load_files, load_sha512s};

@@ -4,7 +4,7 @@ ghost use Rattle.std.specs.Prelude.{◌≡◌, ⊤, Some, None, IfSome};
 ghost use Rattle.dep_answers.specs.declared.read_set.ReadSet.TheVariants as read_set;
 ghost use Rattle.dep_types.specs.State.{State};
 ghost use Rattle.dep_objects.specs.Ahead.{AreReadAhead};
-ghost use Rattle.dep_objects.specs.Objects.{HasRow};
+ghost use Rattle.dep_row_maps.specs.Stored.{HasRow};
 ghost use Rattle.dep_views.specs.Shown.{MayFindRow, MayReadShown, ReadsShown, object_of_read_set, object_row_read};
 
 use crate::objects::{view_of, with_files};

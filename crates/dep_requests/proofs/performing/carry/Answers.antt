@@ -11,7 +11,7 @@ use Rattle.dep_requests.specs.Reported.{IsAccepted}
 use Rattle.dep_requests.proofs.AheadStill.{texts_still}
 use Rattle.dep_requests.proofs.Carried.{request_made}
 use Rattle.dep_requests.proofs.KnownShown.{has_known}
-use Rattle.dep_objects.specs.Objects.{HasRow}
+use Rattle.dep_row_maps.specs.Stored.{HasRow}
 use Rattle.dep_requests.proofs.KnownReplies.{known_shown_by}
 use Rattle.dep_requests.proofs.Stepping.{changes_still, left_alone, next_after, reads_alone, shown_after}
 use Rattle.dep_requests.proofs.performing.carry.Goals as goal
