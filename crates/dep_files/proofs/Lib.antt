@@ -5,3 +5,4 @@ pub mod Cuts
 pub mod Written
 pub mod FileCalls
 pub mod FileValues
+pub mod AheadFiles

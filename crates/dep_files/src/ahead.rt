@@ -1,47 +1,55 @@
-//! The files of an object that are read before a request needs them, some at a time.
+//! The files of an object that are read before a request lists them, some at a time.
 
-ghost use Rattle.std.specs.Prelude.{◌≡◌, IfOk};
-ghost use Rattle.dep_types.specs.State.{State};
+ghost use Rattle.std.specs.Prelude.{◌≡◌, ℕ, ◌++◌, length, take, IfOk, IfSome};
+ghost use Rattle.dep_types.specs.Maps.{Numbered};
+ghost use Rattle.dep_types.specs.State.{State, File};
 ghost use Rattle.dep_types.specs.Sound.{IsSound};
 ghost use Rattle.dep_types.specs.Rows.{sha512s_of};
-ghost use Rattle.dep_row_maps.specs.Clauses.{Finds, MayReadOver, ReadsOver};
-ghost use Rattle.dep_row_maps.specs.ReadLaws.{listed_files};
 ghost use Rattle.dep_row_maps.specs.Stored.{HasRow};
 ghost use Rattle.dep_row_maps.specs.TablesAre.{files_at};
-ghost use Rattle.dep_files.specs.Ahead.{AddsFiles, AreFilesAhead};
+ghost use Rattle.dep_row_maps.specs.ReadLaws.{listed_files};
+ghost use Rattle.dep_row_maps.specs.Clauses.{Finds, MayReadOver, ReadsOver};
+ghost use Rattle.dep_files.specs.Ahead.{AddsFiles, AreFilesAhead, AreFilesOf, AreFilesSoFar, number_behind};
 
-use dep_tables::{Statements, files_of};
+use crate::loading::read_sha512s;
+use dep_tables::{LIMIT, PAGE_SIZE, Statements, files_of, files_page};
 use dep_types::{FileRow, List, ObjectRow, StoreFault};
-use std::alloc::Global;
+use std::alloc::{AllocError, Global};
 
-/// Files of one state of an object, as far as they were read.
+/// So many requests for rows of other objects may be held back, one after another, while those of one object are read:
+/// as many as there are connections, so that the request for which they are read has had its turn.
+pub const MOST_HELD: u32 = 1_024;
+
+/// The files of one state of an object, as far as they were read: the first of them.
 #[derive(Drop)]
 pub(crate) struct ReadFiles {
     object: u64,
+    /// The object's tag: once the object is changed it has another.
     tag: u64,
     rows: Vec<FileRow>,
+    /// The SHA-512 values of the first of these.
     sha512s: Vec<[u8; 64]>,
+    /// Whether all rows were read, so that no query is asked for more of them.
     has_all: bool,
 }
 
-/// The files of an object that were read ahead of a request that lists them.
+/// The files of an object that were read ahead of a request that lists them. They are lost with the process.
 #[derive(Drop)]
 pub struct FilesAhead {
     read: Option<ReadFiles>,
+    /// How many requests for others were held back since a part of these was read.
     held: u32,
 }
 
-/// The files of an object with their SHA-512 values.
+/// The files of an object, by ascending number, with the SHA-512 value of each.
 #[derive(Drop)]
 pub struct HashedFiles {
-    /// The rows.
     pub rows: List<FileRow>,
-    /// The values.
     pub sha512s: List<[u8; 64]>,
 }
 
 impl FilesAhead {
-    /// No files.
+    /// No files of any object. It takes no memory.
     pub fn new() -> FilesAhead
         ensures { (s : State) → AreFilesAhead s result }
     {
@@ -51,7 +59,7 @@ impl FilesAhead {
         }
     }
 
-    /// Forgets.
+    /// Forgets what was read, as no request waits for it.
     pub fn forget(&mut self)
         ensures { (s : State) → AreFilesAhead s self.new }
     {
@@ -59,21 +67,190 @@ impl FilesAhead {
         self.held = 0;
     }
 
-    /// Follows.
-    pub fn follow(&mut self, before: &ObjectRow, after: &ObjectRow) -> FilesAhead
-        ensures left { (s : State) → AreFilesAhead s self.old → AreFilesAhead s self.new }
-        ensures followed { (s t : State) → IsSound t → AreFilesAhead s self.old
+    /// Keeps what was read of an object that had the first row and has the second one now, where files were only added
+    /// to it, so that what is left is read on.
+    pub fn follow(&mut self, before: &ObjectRow, after: &ObjectRow)
+        ensures { (s t : State) → IsSound t → AreFilesAhead s self.old → AreFilesAhead t self.old
             → HasRow s before.now → HasRow t after.now → AddsFiles s t before.now.object
-            → AreFilesAhead t result }
+            → AreFilesAhead t self.new }
     {
-        if before.object_tag == after.object_tag {
-            return FilesAhead::new();
+        let Some(read) = self.read.take() else {
+            return;
+        };
+        self.read = Some(read.followed(before, after));
+    }
+
+    // Takes out what was read of the object of this row, which may be nothing.
+    fn take(&mut self, alloc: Global, row: &ObjectRow) -> ReadFiles
+        ensures left { (s : State) → AreFilesAhead s self.old → AreFilesAhead s self.new }
+        ensures taken { (s : State) → HasRow s row.now → AreFilesAhead s self.old
+            → AreFilesSoFar row.now.object (files_at s.objects row.now.object) result }
+    {
+        match self.read.take() {
+            Some(read) if read.object == row.object && read.tag == row.object_tag => read,
+            other => {
+                self.read = other;
+                ReadFiles::none_of(alloc, row)
+            }
         }
-        FilesAhead::new()
+    }
+
+    // Takes out what was read of the object of this row, to read on. It is `None` where files of another object are held,
+    // for which a request waits.
+    fn take_on(&mut self, alloc: Global, row: &ObjectRow) -> Option<ReadFiles>
+        ensures left { (s : State) → AreFilesAhead s self.old → AreFilesAhead s self.new }
+        ensures taken { IfSome result (λ read. (s : State) → IsSound s → HasRow s row.now
+            → AreFilesAhead s self.old → AreFilesOf s read) }
+    {
+        match self.read.take() {
+            Some(read) if read.object == row.object && read.tag == row.object_tag => Some(read),
+            Some(read) if read.object != row.object && self.held < MOST_HELD => {
+                self.read = Some(read);
+                self.held += 1;
+                None
+            }
+            _ => Some(ReadFiles::none_of(alloc, row)),
+        }
+    }
+
+    fn put(&mut self, read: ReadFiles)
+        ensures { (s : State) → AreFilesOf s read → AreFilesAhead s self.new }
+    {
+        self.read = Some(read);
+        self.held = 0;
     }
 }
 
-/// Reads ahead.
+impl ReadFiles {
+    // Nothing is read yet of the object of this row.
+    fn none_of(alloc: Global, row: &ObjectRow) -> ReadFiles
+        ensures first { (n : ℕ) (files : Numbered File) → AreFilesSoFar n files result }
+        ensures its { (s : State) → IsSound s → HasRow s row.now → AreFilesOf s result }
+    {
+        ReadFiles {
+            object: row.object,
+            tag: row.object_tag,
+            rows: Vec::new(alloc),
+            sha512s: Vec::new(alloc),
+            has_all: false,
+        }
+    }
+
+    // What was read, once its object has another row.
+    fn followed(self, before: &ObjectRow, after: &ObjectRow) -> ReadFiles
+        ensures { (s t : State) → IsSound t → AreFilesOf s self → AreFilesOf t self
+            → HasRow s before.now → HasRow t after.now → AddsFiles s t before.now.object
+            → AreFilesOf t result }
+    {
+        if self.object != before.object
+            || self.tag != before.object_tag
+            || self.object != after.object
+        {
+            return self;
+        }
+        ReadFiles {
+            object: self.object,
+            tag: after.object_tag,
+            rows: self.rows,
+            sha512s: self.sha512s,
+            has_all: false,
+        }
+    }
+
+    // Whether something is left to be read.
+    fn lacks(&self, with_sha512s: bool) -> bool {
+        !self.has_all || (with_sha512s && self.sha512s.len() < self.rows.len())
+    }
+}
+
+// The number from which the files have to be read that follow these.
+fn key_behind(rows: &[FileRow]) -> Result<u64, StoreFault>
+    ensures { IfOk result (λ from. from ≡ number_behind rows.now) }
+{
+    let Some(row) = rows.last() else {
+        return Ok(0);
+    };
+    if row.file >= LIMIT {
+        return Err(StoreFault::Store);
+    }
+    Ok(row.file + 1)
+}
+
+// These rows, and behind them those. Where the first are none nothing is moved.
+fn joined(first: Vec<FileRow>, more: Vec<FileRow>) -> Result<Vec<FileRow>, AllocError>
+    ensures { IfOk result (λ all. all.items ≡ first.items ++ more.items) }
+{
+    if first.is_empty() {
+        return Ok(more);
+    }
+    let mut all = first;
+    let mut more = more;
+    all.append(&mut more)?;
+    Ok(all)
+}
+
+// Reads the next rows of an object's files.
+fn with_page<T: Statements>(
+    tx: &mut T,
+    alloc: Global,
+    read: ReadFiles,
+) -> Result<ReadFiles, StoreFault>
+    ensures does { ReadsOver T.lenders T.state tx.old tx.new result
+        (λ s. AreFilesOf s read → IfOk result (AreFilesOf s)) }
+{
+    let from = key_behind(read.rows.as_slice())?;
+    let page = files_page(tx, alloc, read.object, from)?;
+    let has_all = page.len() < PAGE_SIZE;
+    let rows = joined(read.rows, page)?;
+    Ok(ReadFiles {
+        object: read.object,
+        tag: read.tag,
+        rows,
+        sha512s: read.sha512s,
+        has_all,
+    })
+}
+
+// Reads the next SHA-512 values of an object's files.
+fn with_values<T: Statements>(tx: &mut T, read: ReadFiles) -> Result<ReadFiles, StoreFault>
+    ensures does { MayReadOver T.lenders T.state tx.old tx.new result
+        (λ s. AreFilesOf s read → IfOk result (AreFilesOf s)) }
+{
+    let first = read.sha512s;
+    let end = read.rows.len().min(first.len() + PAGE_SIZE);
+    let sha512s = read_sha512s(tx, read.rows.as_slice(), first, end)?;
+    Ok(ReadFiles {
+        object: read.object,
+        tag: read.tag,
+        rows: read.rows,
+        sha512s,
+        has_all: read.has_all,
+    })
+}
+
+// Reads more of an object's files: rows while some are left, and then SHA-512 values where these are wanted.
+fn read_on<T: Statements>(
+    tx: &mut T,
+    alloc: Global,
+    read: ReadFiles,
+    with_sha512s: bool,
+) -> Result<ReadFiles, StoreFault>
+    ensures does { MayReadOver T.lenders T.state tx.old tx.new result
+        (λ s. AreFilesOf s read → IfOk result (AreFilesOf s)) }
+{
+    if !read.has_all {
+        return with_page(tx, alloc, read);
+    }
+    if with_sha512s {
+        return with_values(tx, read);
+    }
+    Ok(read)
+}
+
+/// Reads files of the object of this row, which is there: at most [`PAGE_SIZE`] rows, or once all rows were read and
+/// SHA-512 values are wanted, so many of these. A request that lists all of them takes them out then ([`load_files`],
+/// [`load_hashed_files`]). It returns whether more may be left: also where those of another object are read, whose request
+/// comes first. What was read is lost where it fails. A number of 2^63 or more is a fault of the store.
 pub fn read_files_ahead<T: Statements>(
     tx: &mut T,
     alloc: Global,
@@ -84,10 +261,33 @@ pub fn read_files_ahead<T: Statements>(
     ensures does { MayReadOver T.lenders T.state tx.old tx.new result
         (λ s. IsSound s → HasRow s row.now → AreFilesAhead s ahead.old → AreFilesAhead s ahead.new) }
 {
-    Ok(false)
+    let Some(read) = ahead.take_on(alloc, row) else {
+        return Ok(true);
+    };
+    let read = read_on(tx, alloc, read, with_sha512s)?;
+    let is_left = read.lacks(with_sha512s);
+    ahead.put(read);
+    Ok(is_left)
 }
 
-/// Loads.
+// All files of an object, of which these are the first.
+fn with_rest<T: Statements>(
+    tx: &mut T,
+    alloc: Global,
+    object: u64,
+    rows: Vec<FileRow>,
+) -> Result<Vec<FileRow>, StoreFault>
+    ensures does { ReadsOver T.lenders T.state tx.old tx.new result
+        (λ s. rows.items ≡ take (length rows.items) (listed_files object (files_at s.objects object))
+        → IfOk result (λ all. all.items ≡ listed_files object (files_at s.objects object))) }
+{
+    let from = key_behind(rows.as_slice())?;
+    let rest = files_of(tx, alloc, object, from)?;
+    Ok(joined(rows, rest)?)
+}
+
+/// The files of the object of this row, which is there, by ascending number. Those that were read ahead are taken out; the
+/// rest is read. A number of 2^63 or more is a fault of the store.
 pub fn load_files<T: Statements>(
     tx: &mut T,
     alloc: Global,
@@ -95,14 +295,16 @@ pub fn load_files<T: Statements>(
     row: &ObjectRow,
 ) -> Result<List<FileRow>, StoreFault>
     ensures does { ReadsOver T.lenders T.state tx.old tx.new result
-        (λ s. HasRow s row.now → AreFilesAhead s ahead.old → IfOk result
-        (λ found. found ≡ listed_files row.now.object (files_at s.objects row.now.object))) }
+        (λ s. HasRow s row.now → AreFilesAhead s ahead.old → IfOk result (λ found.
+        found ≡ listed_files row.now.object (files_at s.objects row.now.object))) }
     ensures left { (s : State) → AreFilesAhead s ahead.old → AreFilesAhead s ahead.new }
 {
-    Ok(List::from_vec(files_of(tx, alloc, row.object)?))
+    let read = ahead.take(alloc, row);
+    let rows = with_rest(tx, alloc, row.object, read.rows)?;
+    Ok(List::from_vec(rows))
 }
 
-/// Loads.
+/// The same with the SHA-512 value of each. It is a fault of the store where one has none.
 pub fn load_hashed_files<T: Statements>(
     tx: &mut T,
     alloc: Global,
@@ -110,12 +312,18 @@ pub fn load_hashed_files<T: Statements>(
     row: &ObjectRow,
 ) -> Result<HashedFiles, StoreFault>
     ensures does { Finds T.lenders T.state tx.old tx.new result
-        (λ s. HasRow s row.now → AreFilesAhead s ahead.old → IfOk result
-        (λ found. (found.rows ≡ listed_files row.now.object (files_at s.objects row.now.object))
+        (λ s. HasRow s row.now → AreFilesAhead s ahead.old → IfOk result (λ found.
+        (found.rows ≡ listed_files row.now.object (files_at s.objects row.now.object))
         × (found.sha512s ≡ sha512s_of (files_at s.objects row.now.object)))) }
     ensures left { (s : State) → AreFilesAhead s ahead.old → AreFilesAhead s ahead.new }
 {
-    let rows = files_of(tx, alloc, row.object)?;
-    drop(rows);
-    Err(StoreFault::Store)
+    let read = ahead.take(alloc, row);
+    let first = read.sha512s;
+    let rows = with_rest(tx, alloc, row.object, read.rows)?;
+    let end = rows.len();
+    let sha512s = read_sha512s(tx, rows.as_slice(), first, end)?;
+    Ok(HashedFiles {
+        rows: List::from_vec(rows),
+        sha512s: List::from_vec(sha512s),
+    })
 }

@@ -68,7 +68,7 @@ pub fn delete_files<T: Statements>(tx: &mut T, alloc: Global, object: u64) -> Re
         (λ s becomes. (o : Object) → finmap.get s.objects object ≡ Some o
         → becomes (without_files s object o)) }
 {
-    let rows = files_of(tx, alloc, object)?;
+    let rows = files_of(tx, alloc, object, 0)?;
     delete_contents(tx, rows.as_slice())?;
     dep_tables::delete_files(tx, object)
 }

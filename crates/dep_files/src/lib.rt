@@ -7,7 +7,9 @@ mod content;
 mod files;
 mod loading;
 
-pub use ahead::{FilesAhead, HashedFiles, load_files, load_hashed_files, read_files_ahead};
+pub use ahead::{
+    FilesAhead, HashedFiles, MOST_HELD, load_files, load_hashed_files, read_files_ahead,
+};
 pub use blocks::{delete_blocks, put_blocks};
 pub use content::{BLOCK_SIZE, Content};
 pub use files::{delete_file, delete_files, put_file};

@@ -1,30 +1,17 @@
 //! The files of an object, read without their contents.
 
-ghost use Rattle.std.specs.Prelude.{◌≡◌, ℕ, nat_eq, map, Some, IfOk, IsTrue, option_map, option_and_then};
+ghost use Rattle.std.specs.Prelude.{◌≡◌, ◌≤◌, ℕ, nat_eq, max, length, take, Some, IfOk, option_map, option_and_then};
 ghost use Rattle.std.specs.FinMap as finmap;
 ghost use Rattle.sha2.specs.Sha512.{sha512};
 ghost use Rattle.dep_types.specs.State.{File, file_at};
 ghost use Rattle.dep_types.specs.Rows.{file_row, sha512s_of};
-ghost use Rattle.dep_row_maps.specs.Clauses.{MayFind, ReadsMaps};
+ghost use Rattle.dep_row_maps.specs.Clauses.{MayReadOver, ReadsMaps};
+ghost use Rattle.dep_row_maps.specs.ReadLaws.{listed_files};
 ghost use Rattle.dep_row_maps.specs.TablesAre.{files_at};
 ghost use Rattle.dep_types.specs.Names.{if_passes};
 
-use dep_tables::{BlockOwner, Statements, files_of, find_sha512};
-use dep_types::{FileRow, List, StoreFault};
-use std::alloc::Global;
-
-/// The files of an object, by ascending number; none where there is no such object. A number of 2^63
-/// or more is a fault of the store.
-pub(crate) fn load_all<T: Statements>(
-    tx: &mut T,
-    alloc: Global,
-    object: u64,
-) -> Result<List<FileRow>, StoreFault>
-    ensures does { ReadsMaps T.lenders T.state tx.old tx.new result (λ s found. found
-        ≡ map (λ e. file_row object e.0 e.1) (finmap.entries (files_at s.objects object))) }
-{
-    Ok(List::from_vec(files_of(tx, alloc, object)?))
-}
+use dep_tables::{BlockOwner, Statements, find_sha512};
+use dep_types::{FileRow, StoreFault};
 
 // The SHA-512 of a file, which is there.
 fn load_sha512<T: Statements>(tx: &mut T, file: u64) -> Result<[u8; 64], StoreFault>
@@ -38,24 +25,27 @@ fn load_sha512<T: Statements>(tx: &mut T, file: u64) -> Result<[u8; 64], StoreFa
     }
 }
 
-/// The SHA-512 of each of these files, which are an object's, in their order. It is a fault of the store
-/// where one has none, and where a number is 2^63 or more.
-pub(crate) fn load_sha512s<T: Statements>(
+// Reads the SHA-512 values of an object's files up to this place, behind those of the first of them. It is a fault of the store
+// where one has none.
+pub(crate) fn read_sha512s<T: Statements>(
     tx: &mut T,
-    alloc: Global,
     rows: &[FileRow],
-) -> Result<List<[u8; 64]>, StoreFault>
-    ensures does { MayFind T.lenders T.state tx.old tx.new result
-        (λ s. IsTrue (T.state tx.old).is_open → (n : ℕ)
-        → rows.now ≡ map (λ e. file_row n e.0 e.1) (finmap.entries (files_at s.objects n))
-        → IfOk result (λ values. values ≡ sha512s_of (files_at s.objects n))) }
+    first: Vec<[u8; 64]>,
+    end: usize,
+) -> Result<Vec<[u8; 64]>, StoreFault>
+    requires { end ≤ length rows.now }
+    ensures does { MayReadOver T.lenders T.state tx.old tx.new result
+        (λ s. (n : ℕ) → rows.now ≡ take (length rows.now) (listed_files n (files_at s.objects n))
+        → first.items ≡ take (length first.items) (sha512s_of (files_at s.objects n))
+        → IfOk result (λ values. values.items
+        ≡ take (max end (length first.items)) (sha512s_of (files_at s.objects n)))) }
 {
-    let mut values = Vec::new(alloc);
-    'rows: for row in rows {
-        let value = load_sha512(tx, row.file)?;
+    let mut values = first;
+    for place in values.len()..end {
+        let value = load_sha512(tx, rows[place].file)?;
         values.push(value)?;
     }
-    Ok(List::from_vec(values))
+    Ok(values)
 }
 
 fn of_object(found: Option<FileRow>, object: u64) -> Option<FileRow>

@@ -7,7 +7,7 @@ use Rattle.dep_types.specs.State.{State, Object, Texts}
 use Rattle.dep_types.specs.Sound.{IsSound}
 use Rattle.dep_types.specs.Rows.{object_row}
 use Rattle.dep_types.specs.declared.rows.ObjectRow.{ObjectRow}
-use Rattle.dep_row_maps.specs.Stored.{HasRow, grouped, listed, metadata_rows, pair_seen, with_added_text}
+use Rattle.dep_row_maps.specs.Stored.{grouped, HasRow, listed, metadata_rows, pair_seen, with_added_text}
 use Rattle.dep_row_maps.specs.TablesAre.{metadata_at}
 use Rattle.dep_row_maps.specs.ReadLaws.{pair_of}
 use Rattle.dep_objects.specs.Objects.{IsDescribed}

@@ -18,7 +18,7 @@ use Rattle.dep_tables.specs.Rows.{stored_object}
 use Rattle.dep_tables.specs.Tables.{Tables}
 use Rattle.dep_row_maps.specs.TablesAre.{TablesAre, metadata_at, files_at, with_object}
 use Rattle.dep_row_maps.proofs.Whole.{object_put, object_found, object_written, object_deleted}
-use Rattle.dep_row_maps.specs.Stored.{HasRow, grouped, listed, object_stored}
+use Rattle.dep_row_maps.specs.Stored.{grouped, HasRow, listed, object_stored}
 use Rattle.dep_row_maps.proofs.Metadata.{grouped-listed}
 use Rattle.dep_objects.specs.declared.objects.DescribedObject.{DescribedObject}
 use Rattle.dep_objects.specs.Objects.{object_of, described_object}

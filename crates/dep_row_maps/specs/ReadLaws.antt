@@ -1,5 +1,5 @@
 -- What is read of tables, by the state that they are.
-use Rattle.std.specs.Prelude.{◌≡◌, ◌≢◌, ℕ, ◌+◌, Bool, ◌&&◌, List, [], length, take, filter, Option, Some, None, option_map, option_and_then, find, map as each, nat_eq}
+use Rattle.std.specs.Prelude.{◌≡◌, ◌≢◌, ℕ, ◌+◌, Bool, ◌&&◌, List, [], length, take, filter, Option, Some, None, option_map, option_and_then, find, map as each, nat_eq, nat_le}
 use Rattle.std.specs.List.{flat_map, slice_get}
 use Rattle.std.specs.Option.{option_map_or, option_to_list}
 use Rattle.std.specs.FinMap as map
@@ -15,7 +15,7 @@ use Rattle.dep_types.specs.declared.rows.ObjectRow.{ObjectRow}
 use Rattle.dep_types.specs.declared.rows.FileRow.{FileRow}
 use Rattle.dep_tables.specs.Rowids.{IsOrdered, row_at, is_after}
 use Rattle.dep_tables.specs.Tables.{Tables}
-use Rattle.dep_tables.specs.Edits.{HasStateRow, IsObjectRowAt, IsObjectAfter, AreMetadataRowsOf, IsLastText, page_size, AreFirstTexts, IsFileRowAt, AreFileRowsOf, IsUploadRowAt, AreSegmentRowsOf, AreBytesAt, IsSha512Of}
+use Rattle.dep_tables.specs.Edits.{HasStateRow, IsObjectRowAt, IsObjectAfter, AreMetadataRowsOf, IsLastText, page_size, AreFirstTexts, IsFileRowAt, AreFileRowsOf, AreFirstFileRows, IsUploadRowAt, AreSegmentRowsOf, AreBytesAt, IsSha512Of}
 use Rattle.dep_tables.specs.declared.uploads.UploadColumns.{UploadColumns}
 use Rattle.dep_tables.specs.Rows.{metadata_values, shown_metadata, columns_of_upload}
 use Rattle.dep_tables.specs.declared.state.StateRow.{StateRow}
@@ -112,14 +112,24 @@ abbrev pub FilesListed : Type 0
 FilesListed = HoldsOfTables (λ t s. (n : ℕ)
     → filter (is_file_of n) t.files ≡ rows_of (file_stored n) (files_at s.objects n))
 
--- the rows of an object's files, by number
+-- the row of each of an object's files, by number
 abbrev pub listed_files : ℕ → Numbered File → List FileRow
 listed_files n files = each (λ e. file_row n e.0 e.1) (map.entries files)
 
--- what a query finds of an object's files is the row of each, by number
+-- those from a number on
+abbrev pub files_from : ℕ → List FileRow → List FileRow
+files_from from rows = filter (λ row. nat_le from row.file) rows
+
+-- what a query finds of an object's files from a number on is the row of each, by number
 abbrev pub FilesRead : Type 0
-FilesRead = HoldsOfTables (λ t s. (n : ℕ) (found : List FileRow) → AreFileRowsOf n t found
-    → found ≡ each (λ e. file_row n e.0 e.1) (map.entries (files_at s.objects n)))
+FilesRead = HoldsOfTables (λ t s. (n from : ℕ) (found : List FileRow) → AreFileRowsOf n from t found
+    → found ≡ files_from from (listed_files n (files_at s.objects n)))
+
+-- a page of them has the first of these rows
+abbrev pub FilesPageRead : Type 0
+FilesPageRead = HoldsOfTables (λ t s. (n from : ℕ) (found : List FileRow)
+    → AreFirstFileRows n from t found
+    → found ≡ take page_size (files_from from (listed_files n (files_at s.objects n))))
 
 -- the stored row at a number is that of the upload, and none is there without one
 abbrev pub UploadFound : Type 0

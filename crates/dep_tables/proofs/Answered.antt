@@ -69,6 +69,10 @@ module _ {R : Type 0} (values : R → Row) (width : ℕ) (see : Row → Row) (wh
       let first : map (columns_from 0 width) rows ≡ take count h.0 = ap (map (columns_from 0 width)) h.2 ∙ taken count h.0 (no_wider values width see whole stored h.0 h.1.same) in
       (h.0, h.1, is ∙ first)
 
+  -- the first of rows that are shown as they are stored
+  pub read_first_each : (count : ℕ) (stored rows : List Row) (read : List R) → rows ≡ take count (map see stored) → map values read ≡ map (columns_from 0 width) rows → map values read ≡ take count (map see stored)
+  read_first_each count stored rows read shown is = is ∙ ap (map (columns_from 0 width)) shown ∙ taken count (map see stored) (each_whole values width see whole stored)
+
   pub read_first : (cmp : Row → Row → Ordering) (stored rows : List Row) (read : List R) → IsFirst cmp (map see stored) rows → map values read ≡ map (columns_from 0 width) rows → IsFirst cmp (map see stored) (map values read)
   read_first = read_page 1
 

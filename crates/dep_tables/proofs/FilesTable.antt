@@ -6,24 +6,26 @@ use Rattle.sqlite.specs.Rowids.TheVariants.{Chosen}
 use Rattle.sqlite.specs.Order.{Row}
 use Rattle.sqlite.specs.Term.{Term, lit, col}
 use Rattle.sqlite.specs.State.{State, ExecutesInside, Shown}
-use Rattle.sqlite.specs.declared.types.Value.TheVariants.{Null, Int, Text, Blob}
+use Rattle.sqlite.specs.declared.types.Value.TheVariants.{Null, Text, Blob}
 use Rattle.sqlite_trees.specs.Tree.{put_row}
 use Rattle.sqlite_rules.specs.Edit.{with_rowid}
-use Rattle.dep_tables.specs.Query.{no_limit}
-use Rattle.dep_tables.specs.Rowids.{row_at, has_number, columns_from}
+use Rattle.dep_tables.specs.Query.{equals, reaches, no_limit, passes_tests}
+use Rattle.dep_tables.specs.Rowids.{row_at, columns_from}
 use Rattle.dep_tables.proofs.Values.{cast_int, cast_null, cast_text_or_null}
-use Rattle.dep_tables.proofs.Tests.{passes_key}
+use Rattle.dep_tables.proofs.Tests.{holds_number, holds_reaching, passes_two}
 use Rattle.dep_tables.proofs.Picked.{by_rowid}
 use Rattle.dep_tables.proofs.Written.{Inserts, Deletes, inserts_keyed}
-use Rattle.dep_tables.proofs.Selected.{Asks, selects_in_order}
+use Rattle.dep_tables.proofs.Selected.{Asks, first_ones, selects_in_order, selects_in_order_page}
 use Rattle.dep_types.specs.declared.rows.FileRow.{FileRow}
 use Rattle.dep_tables.specs.Schema.{our_schema}
-use Rattle.dep_tables.specs.Texts.{insert_file_text, delete_file_text, delete_files_text, find_file_text, files_of_text, sha256s_of_text}
+use Rattle.dep_tables.specs.Texts.{insert_file_text, delete_file_text, delete_files_text, find_file_text, files_of_text, files_page_text, sha256s_of_text}
 use Rattle.dep_tables.specs.Rows.{stored_file, file_values, file_columns, shown_file}
+use Rattle.dep_tables.specs.FileKeys.{file_key_values, is_file_from}
+use Rattle.dep_tables.specs.Edits.{page_size, AreFileRowsOf, AreFirstFileRows}
 use Rattle.dep_tables.specs.Tables.{tables_of, IsOurs, Leads}
 use Rattle.dep_tables.proofs.Leading.{leads, files_at}
 use Rattle.dep_tables.proofs.OneTable.{of_number, of_column}
-use Rattle.dep_tables.proofs.Answered.{read_each}
+use Rattle.dep_tables.proofs.Answered.{read_each, read_first_each}
 
 insert_is : Inserts our_schema insert_file_text 4 (col 0 0 ∷ lit Null ∷ col 0 1 ∷ col 0 2 ∷ col 0 3 ∷ col 0 4 ∷ col 0 5 ∷ col 0 6 ∷ col 0 7 ∷ col 0 8 ∷ col 0 9 ∷ [])
 unfolding understood everything
@@ -61,13 +63,31 @@ pub sha256s_are : Asks our_schema sha256s_of_text 5 (of_column 2) numbers_and_sh
 unfolding understood everything
 sha256s_are = record { names = _; is = refl; unlisted = refl; plain = (refl, refl) }
 
-pub list_is : Asks our_schema files_of_text 5 (of_column 2) values by_rowid no_limit
+-- WHERE object = ?1 AND file >= ?2
+abbrev from_number : List Term
+from_number = equals (col 1 2) (col 0 0) ∷ reaches (col 1 0) (col 0 1) ∷ []
+
+tests_from : (object from : ℕ) (row : Row) → passes_tests (file_key_values object from) from_number row ≡ is_file_from object from row
+tests_from object from row =
+    let params = file_key_values object from in
+    passes_two params row (equals (col 1 2) (col 0 0)) (reaches (col 1 0) (col 0 1)) _ _ (holds_number params 0 object 2 row refl) (holds_reaching params 1 from 0 row refl)
+
+pub list_is : Asks our_schema files_of_text 5 from_number values by_rowid no_limit
 unfolding understood everything
 list_is = record { names = _; is = refl; unlisted = refl; plain = (refl, refl) }
 
-pub lists_files : (old new : State) (object : ℕ) (found : List FileRow) → IsOurs old
-    → (rows : List Row) × Shown files_of_text (Int (pos object) ∷ []) old new rows × (map file_values found ≡ map (columns_from 0 10) rows)
-    → map file_values found ≡ map shown_file (filter (has_number 2 object) (tables_of old).files)
-lists_files old new object found ours read =
-    read_each file_values 10 shown_file (λ row. refl) (filter (has_number 2 object) (tables_of old).files) read.0 found
-    (selects_in_order our_schema files_of_text (Int (pos object) ∷ []) old ours.schema 5 files_at.own (of_column 2) values (has_number 2 object) (λ row. passes_key object 2 row) new ours.trees.ordered.1.1.1.1.0 list_is read.0 read.1) read.2
+pub page_is : Asks our_schema files_page_text 5 from_number values by_rowid (first_ones page_size)
+unfolding understood everything
+page_is = record { names = _; is = refl; unlisted = refl; plain = (refl, refl) }
+
+pub lists_files : (old new : State) (object from : ℕ) (found : List FileRow) → IsOurs old
+    → (rows : List Row) × Shown files_of_text (file_key_values object from) old new rows × (map file_values found ≡ map (columns_from 0 10) rows) → AreFileRowsOf object from (tables_of old) found
+lists_files old new object from found ours read =
+    read_each file_values 10 shown_file (λ row. refl) (filter (is_file_from object from) (tables_of old).files) read.0 found
+    (selects_in_order our_schema files_of_text (file_key_values object from) old ours.schema 5 files_at.own from_number values (is_file_from object from) (tests_from object from) new ours.trees.ordered.1.1.1.1.0 list_is read.0 read.1) read.2
+
+pub pages_files : (old new : State) (object from : ℕ) (found : List FileRow) → IsOurs old
+    → (rows : List Row) × Shown files_page_text (file_key_values object from) old new rows × (map file_values found ≡ map (columns_from 0 10) rows) → AreFirstFileRows object from (tables_of old) found
+pages_files old new object from found ours read =
+    read_first_each file_values 10 shown_file (λ row. refl) page_size (filter (is_file_from object from) (tables_of old).files) read.0 found
+    (selects_in_order_page our_schema files_page_text (file_key_values object from) old ours.schema 5 files_at.own from_number values (is_file_from object from) (tests_from object from) page_size new ours.trees.ordered.1.1.1.1.0 page_is read.0 read.1) read.2

@@ -62,7 +62,7 @@ module _ (tree : ℕ) (tests shows : List Term) (params : Row) (before rows : Li
   pub by_next : (p : Row → Bool) → ((r : Row) → passes_tests params tests r ≡ p r) → Picks (one_table tree tests shows by_rowid (lit (Int (pos 1)))) params (filter (passes_tests params tests) before) rows
       → rows ≡ map (shown_of params shows) (option_to_list (find p before))
   by_next p test h =
-      first_in_key_order tree tests shows params (filter (passes_tests params tests) before) rows (ascending-filter _ (passes_tests params tests) before up.0) h ∙ take_one (passes_tests params tests) (shown_of params shows) before
+      first_in_key_order tree tests shows params (filter (passes_tests params tests) before) rows (ascending-filter _ (passes_tests params tests) before up.0) 1 h ∙ take_one (passes_tests params tests) (shown_of params shows) before
       ∙ ap (λ o. map (shown_of params shows) (option_to_list o)) (same_find _ p before test)
 
   -- SELECT .. ORDER BY key
@@ -70,6 +70,12 @@ module _ (tree : ℕ) (tests shows : List Term) (params : Row) (before rows : Li
       → rows ≡ map (shown_of params shows) (filter p before)
   by_order p test h =
       in_key_order tree tests shows params (filter (passes_tests params tests) before) rows (ascending-filter _ (passes_tests params tests) before up.0) h ∙ ap (map (shown_of params shows)) (same_filter _ p before test)
+
+  -- the same with LIMIT
+  pub by_order_page : (count : ℕ) (p : Row → Bool) → ((r : Row) → passes_tests params tests r ≡ p r) → Picks (one_table tree tests shows by_rowid (lit (Int (pos count)))) params (filter (passes_tests params tests) before) rows
+      → rows ≡ take count (map (shown_of params shows) (filter p before))
+  by_order_page count p test h =
+      first_in_key_order tree tests shows params (filter (passes_tests params tests) before) rows (ascending-filter _ (passes_tests params tests) before up.0) count h ∙ ap (λ rs. take count (map (shown_of params shows) rs)) (same_filter _ p before test)
 
 pub without_key : (id : ℤ) (p : Row → Bool) (rows : List Row) → ((r : Row) → p r ≡ has_rowid id r) → filter (λ r. not (p r)) rows ≡ without_rowid id rows
 without_key id p rows test = same_filter _ (λ r. not (has_rowid id r)) rows (λ r. ap not (test r))

@@ -96,8 +96,8 @@ module _ (tree : ℕ) (tests shows : List Term) (params : Row) (found rows : Lis
       h.shown ∙ drop-none (map (λ (o : Output). o.1) h.ordered) ∙ ap (map (λ (o : Output). o.1)) (ordered_is no_limit h.ordered h.same h.sorted)
       ∙ map-map (λ (o : Output). o.1) (λ r. output (one_table tree tests shows by_rowid no_limit) (params ∷ r ∷ [])) found
 
-  -- the first of them
-  pub first_in_key_order : Picks (one_table tree tests shows by_rowid (lit (Int (pos 1)))) params found rows → rows ≡ take 1 (map (shown_of params shows) found)
-  first_in_key_order h =
-      let q = one_table tree tests shows by_rowid (lit (Int (pos 1))) in
-      h.shown ∙ ap (take 1) (drop-none (map (λ (o : Output). o.1) h.ordered) ∙ ap (map (λ (o : Output). o.1)) (ordered_is (lit (Int (pos 1))) h.ordered h.same h.sorted) ∙ map-map (λ (o : Output). o.1) (λ r. output q (params ∷ r ∷ [])) found)
+  -- so many of them, from the first on
+  pub first_in_key_order : (count : ℕ) → Picks (one_table tree tests shows by_rowid (lit (Int (pos count)))) params found rows → rows ≡ take count (map (shown_of params shows) found)
+  first_in_key_order count h =
+      let q = one_table tree tests shows by_rowid (lit (Int (pos count))) in
+      h.shown ∙ ap (take count) (drop-none (map (λ (o : Output). o.1) h.ordered) ∙ ap (map (λ (o : Output). o.1)) (ordered_is (lit (Int (pos count))) h.ordered h.same h.sorted) ∙ map-map (λ (o : Output). o.1) (λ r. output q (params ∷ r ∷ [])) found)

@@ -20,7 +20,7 @@ use Rattle.dep_tables.specs.Query.{one_table, plainly, no_limit, passes_tests}
 use Rattle.dep_tables.specs.Rowids.{IsOrdered, InOrder, AreFirst, IsFirst}
 use Rattle.dep_tables.proofs.Asking.{Picks, answers}
 use Rattle.dep_tables.proofs.Picked.{shown_of, by_rowid, in_any_order, in_order, drop-none}
-use Rattle.dep_tables.proofs.Looking.{by_key, by_next, by_order, same_filter}
+use Rattle.dep_tables.proofs.Looking.{by_key, by_next, by_order, by_order_page, same_filter}
 use Rattle.dep_tables.proofs.OneStatement.{selected}
 
 abbrev pub first_ones : ℕ → Term
@@ -62,6 +62,11 @@ module _ (schema : Schema) (sql : List ℕ) (params : Row) (old : State) (ours :
     -- SELECT .. ORDER BY key
     pub selects_in_order : (new : State) → IsOrdered rows → Asks schema sql tree tests shows by_rowid no_limit → (found : List Row) → Shown sql params old new found → found ≡ map (shown_of params shows) (filter p rows)
     selects_in_order new up is found h = by_order tree tests shows params rows found up p test (picked new by_rowid no_limit is found h)
+
+    -- the same with LIMIT
+    pub selects_in_order_page : (count : ℕ) (new : State) → IsOrdered rows → Asks schema sql tree tests shows by_rowid (first_ones count) → (found : List Row) → Shown sql params old new found
+        → found ≡ take count (map (shown_of params shows) (filter p rows))
+    selects_in_order_page count new up is found h = by_order_page tree tests shows params rows found up count p test (picked new by_rowid (first_ones count) is found h)
 
     -- SELECT .. in any order
     pub selects_all : (new : State) (order : List (Term × Key)) → Asks schema sql tree tests shows order no_limit → (found : List Row) → Shown sql params old new found → IsPermutation (map (shown_of params shows) (filter p rows)) found

@@ -1,5 +1,5 @@
 -- What each statement makes of the tables, and what each query returns of them.
-use Rattle.std.specs.Prelude.{◌≡◌, ℕ, pos, false, Bool, if◌then◌else◌, None, Some, Option, is_some, find, option_map, List, [], ◌∷◌, filter, map, not}
+use Rattle.std.specs.Prelude.{◌≡◌, ℕ, pos, false, Bool, if◌then◌else◌, None, Some, Option, is_some, find, option_map, List, [], ◌∷◌, take, filter, map, not}
 use Rattle.std.specs.List.{list_any}
 use Rattle.std.specs.Option.{option_to_list}
 use Rattle.sqlite.specs.declared.types.Value.{Value}
@@ -18,6 +18,7 @@ use Rattle.dep_tables.specs.declared.owner.BlockOwner.{BlockOwner}
 use Rattle.dep_tables.specs.declared.owner.BlockKey.{BlockKey}
 use Rattle.dep_tables.specs.declared.owner.BlockPlace.{BlockPlace}
 use Rattle.dep_tables.specs.Rows.{stored_format, sha512_values, is_sha512_of, value_in, stored_state, state_values, shown_state, stored_object, object_values, shown_object, metadata_values, shown_metadata, is_text_of, has_metadata_key, by_name_and_place, stored_file, file_values, shown_file, stored_upload, upload_values, shown_upload, segment_values, shown_segment, has_segment_key, by_number, stored_number, block_values, bytes_in, shown_place, place_values, is_block, is_block_of, is_part_of, is_earlier_block, moved_to, by_part_and_place, by_falling_place, shown_number, left_values, shown_left, by_last_and_upload}
+use Rattle.dep_tables.specs.FileKeys.{is_file_from}
 use Rattle.dep_tables.specs.Tables.{Tables}
 use Rattle.dep_tables.specs.Versions.{our_version}
 
@@ -92,7 +93,7 @@ IsLastText object name t found =
     IsFirst by_falling_place (map (shown_number 3) (filter (is_text_of object name) t.metadata))
     (map (λ n. Int (pos n) ∷ []) (option_to_list found))
 
--- how many texts are found at most, where they are read in pages
+-- how many rows are found at most, where they are read in pages
 abbrev pub page_size : ℕ
 page_size = 512
 
@@ -125,10 +126,16 @@ abbrev pub IsFileRowAt : ℕ → Tables → Option FileRow → Type 0
 IsFileRowAt file t found =
     option_map file_values found ≡ option_map shown_file (row_at t.files file)
 
--- the rows of all files of this object were found, by number
-abbrev pub AreFileRowsOf : ℕ → Tables → List FileRow → Type 0
-AreFileRowsOf object t found =
-    map file_values found ≡ map shown_file (filter (has_number 2 object) t.files)
+-- the rows of all files of this object from a number on were found, by number
+abbrev pub AreFileRowsOf : (object from : ℕ) → Tables → List FileRow → Type 0
+AreFileRowsOf object from t found =
+    map file_values found ≡ map shown_file (filter (is_file_from object from) t.files)
+
+-- a page of them: the first
+abbrev pub AreFirstFileRows : (object from : ℕ) → Tables → List FileRow → Type 0
+AreFirstFileRows object from t found =
+    map file_values found
+    ≡ take page_size (map shown_file (filter (is_file_from object from) t.files))
 
 -- ---- uploads
 

@@ -6,6 +6,7 @@ pub mod Indexes
 pub mod Schema
 pub mod Texts
 pub mod Rows
+pub mod FileKeys
 pub mod Tables
 pub mod Edits
 pub mod Clauses

@@ -14,7 +14,8 @@ use Rattle.dep_tables.specs.declared.owner.BlockOwner.{BlockOwner}
 use Rattle.dep_tables.specs.declared.owner.BlockKey.{BlockKey}
 use Rattle.dep_tables.specs.declared.owner.BlockPlace.{BlockPlace}
 use Rattle.dep_tables.specs.Rows.{IsStorableState, state_values, IsStateRow, IsStorableObject, object_values, IsObjectRow, IsNumberRow, IsStorableMetadata, metadata_values, name_values, text_key_values, is_text_from, is_text_from_name, IsMetadataRow, IsStorableFile, file_values, IsFileRow, IsStorableUpload, upload_values, IsUploadRow, IsLeftRow, IsStorableSegment, segment_values, IsSegmentRow, IsStorableOwner, owner_values, IsStorablePart, part_values, IsStorableKey, key_values, block_values, move_values, move_run_values, IsBytesRow, IsPlaceRow, sha512_values, IsSha512Row}
-use Rattle.dep_tables.specs.Edits.{with_our_version, with_state_row, HasStateRow, with_new_object_row, with_object_row, without_object_row, IsObjectRowAt, IsObjectAfter, with_new_metadata_row, without_metadata_rows, AreMetadataRowsOf, IsLastText, AreFirstTexts, with_new_file_row, without_file_row, without_file_rows, IsFileRowAt, AreFileRowsOf, with_new_upload_row, with_upload_row, without_upload_row, IsUploadRowAt, IsUploadAfter, IsLeftBefore, with_new_segment_row, without_segment_rows, AreSegmentRowsOf, with_timed_out, has_timed_out, with_new_block, without_blocks_of, without_run, with_blocks_moved, with_run_moved, AreBytesAt, IsFirstBlock, IsLastPlace, with_new_sha512, without_sha512, IsSha512Of}
+use Rattle.dep_tables.specs.FileKeys.{file_key_values, IsStorableFileKey}
+use Rattle.dep_tables.specs.Edits.{with_our_version, with_state_row, HasStateRow, with_new_object_row, with_object_row, without_object_row, IsObjectRowAt, IsObjectAfter, with_new_metadata_row, without_metadata_rows, AreMetadataRowsOf, IsLastText, AreFirstTexts, with_new_file_row, without_file_row, without_file_rows, IsFileRowAt, AreFileRowsOf, AreFirstFileRows, with_new_upload_row, with_upload_row, without_upload_row, IsUploadRowAt, IsUploadAfter, IsLeftBefore, with_new_segment_row, without_segment_rows, AreSegmentRowsOf, with_timed_out, has_timed_out, with_new_block, without_blocks_of, without_run, with_blocks_moved, with_run_moved, AreBytesAt, IsFirstBlock, IsLastPlace, with_new_sha512, without_sha512, IsSha512Of}
 use Rattle.dep_tables.specs.Tables.{Tables}
 use Rattle.dep_tables.specs.Clauses.{Statement, Query, AtMostOne, JustOne}
 use Rattle.dep_tables.specs.Texts as text
@@ -159,11 +160,18 @@ deletion_of_files = by_key text.delete_files_text without_file_rows
 abbrev pub query_of_file : (file : ℕ) → Query (Option FileRow)
 query_of_file = key_query text.find_file_text (AtMostOne IsFileRow) ⊤ IsFileRowAt
 
--- the rows of an object's files are read
-abbrev pub query_of_files : {Z : Type 0} → (object : ℕ) → Query (Vec FileRow Z)
-query_of_files =
-    key_query text.files_of_text (All IsFileRow) ⊤
-    (λ object t found. AreFileRowsOf object t found.items)
+-- the rows of an object's files from a number on are read
+abbrev pub query_of_files : {Z : Type 0} → (object from : ℕ) → Query (Vec FileRow Z)
+query_of_files object =
+    row_query text.files_of_text (IsStorableFileKey object) (file_key_values object) (All IsFileRow) ⊤
+    (λ from t found. AreFileRowsOf object from t found.items)
+
+-- the first of them are read
+abbrev pub query_of_files_page : {Z : Type 0} → (object from : ℕ) → Query (Vec FileRow Z)
+query_of_files_page object =
+    row_query text.files_page_text (IsStorableFileKey object) (file_key_values object)
+    (All IsFileRow) ⊤
+    (λ from t found. AreFirstFileRows object from t found.items)
 
 -- ---- uploads
 

@@ -77,9 +77,13 @@ find_file_text = codes "SELECT file, object, name, media, size, tag, deposited, 
 abbrev pub sha256s_of_text : List ℕ
 sha256s_of_text = codes "SELECT file, sha256 FROM files WHERE object = ?1 ORDER BY file"
 
--- the text that asks for the rows of the files of an object, by number
+-- the text that asks for the rows of the files of an object from a number on, by number
 abbrev pub files_of_text : List ℕ
-files_of_text = codes "SELECT file, object, name, media, size, tag, deposited, behalf, by_reference, sha256 FROM files WHERE object = ?1 ORDER BY file"
+files_of_text = codes "SELECT file, object, name, media, size, tag, deposited, behalf, by_reference, sha256 FROM files WHERE object = ?1 AND file >= ?2 ORDER BY file"
+
+-- the text that asks for the first of them
+abbrev pub files_page_text : List ℕ
+files_page_text = codes "SELECT file, object, name, media, size, tag, deposited, behalf, by_reference, sha256 FROM files WHERE object = ?1 AND file >= ?2 ORDER BY file LIMIT 512"
 
 -- the text that inserts the row of a new upload
 abbrev pub insert_upload_text : List ℕ

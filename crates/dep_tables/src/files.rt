@@ -1,17 +1,18 @@
 //! The rows of the files.
 
-ghost use Rattle.std.specs.Prelude.{◌≡◌, ◌↔◌, IsTrue};
+ghost use Rattle.std.specs.Prelude.{◌≡◌, ◌<◌, ◌^◌, ◌↔◌, ⊤, IsTrue, All, map};
 ghost use Rattle.sqlite.specs.Values.{bound};
-ghost use Rattle.dep_tables.specs.Rows.{IsStorableFile, file_values};
+ghost use Rattle.dep_tables.specs.Rows.{IsStorableFile, file_values, IsFileRow};
+ghost use Rattle.dep_tables.specs.FileKeys.{file_key_values, IsStorableFileKey};
 ghost use Rattle.dep_tables.specs.Edits.{LacksFileRow};
-ghost use Rattle.dep_tables.specs.Clauses.{Shows, Writes, Queries};
-ghost use Rattle.dep_tables.specs.Statements.{insertion_of_file, deletion_of_file, deletion_of_files, query_of_file, query_of_files};
+ghost use Rattle.dep_tables.specs.Clauses.{Shows, Writes, AsksWhere, Queries};
+ghost use Rattle.dep_tables.specs.Statements.{insertion_of_file, deletion_of_file, deletion_of_files, query_of_file, query_of_files, query_of_files_page};
 
 use crate::calls::Statements;
 use crate::columns::ColumnKind::{self, Flag, Number, Sha256, Text, TextOrNull};
-use crate::keyed::{ask_all_by_key, ask_one_by_key, run_by_key};
+use crate::keyed::{ask_one_by_key, run_by_key};
 use crate::numbers::{LIMIT, flag_at, flag_number, number, number_at};
-use crate::reading::FromRow;
+use crate::reading::{FromRow, ask_all};
 use crate::texts::{digest_at, text_at, text_or_null, text_or_null_at, text_value};
 use dep_types::{FileRow, StoreFault};
 use sqlite::Row;
@@ -121,19 +122,64 @@ pub fn find_file<T: Statements>(tx: &mut T, file: u64) -> Result<Option<FileRow>
     )
 }
 
-/// Returns the rows of an object, by ascending key. It is a fault of the store where one is not one that
-/// `insert_file` writes, and for a number of 2^63 or more.
+fn file_key_params(object: u64, from: u64) -> [ValueRef<'static>; 2]
+    requires object { object < 2 ^ 63 }
+    requires from { from < 2 ^ 63 }
+    ensures { bound result ≡ file_key_values object from }
+{
+    [ValueRef::Int(number(object)), ValueRef::Int(number(from))]
+}
+
+fn ask_files<T: Statements>(
+    tx: &mut T,
+    alloc: Global,
+    sql: &str,
+    object: u64,
+    from: u64,
+) -> Result<Vec<FileRow>, StoreFault>
+    ensures { AsksWhere T.lenders T.state tx.old tx.new result (IsStorableFileKey object from) sql.now
+        (file_key_values object from) 10 (λ found. map file_values found.items) ⊤ (All IsFileRow) }
+{
+    if object >= LIMIT || from >= LIMIT {
+        return Err(StoreFault::Store);
+    }
+    ask_all(tx, alloc, sql, &file_key_params(object, from))
+}
+
+/// Returns the rows of an object from this key on, by ascending key. It is a fault of the store where one is
+/// not one that `insert_file` writes, and for a number of 2^63 or more.
 pub fn files_of<T: Statements>(
     tx: &mut T,
     alloc: Global,
     object: u64,
+    from: u64,
 ) -> Result<Vec<FileRow>, StoreFault>
-    ensures does { Queries T.lenders T.state tx.old tx.new result (query_of_files object) }
+    ensures does { Queries T.lenders T.state tx.old tx.new result (query_of_files object from) }
 {
-    ask_all_by_key(
+    ask_files(
         tx,
         alloc,
-        "SELECT file, object, name, media, size, tag, deposited, behalf, by_reference, sha256 FROM files WHERE object = ?1 ORDER BY file",
+        "SELECT file, object, name, media, size, tag, deposited, behalf, by_reference, sha256 FROM files WHERE object = ?1 AND file >= ?2 ORDER BY file",
         object,
+        from,
+    )
+}
+
+/// Returns at most 512 rows: the first of an object from this key on, by ascending key. It is a fault of the
+/// store where one is not one that `insert_file` writes, and for a number of 2^63 or more.
+pub fn files_page<T: Statements>(
+    tx: &mut T,
+    alloc: Global,
+    object: u64,
+    from: u64,
+) -> Result<Vec<FileRow>, StoreFault>
+    ensures does { Queries T.lenders T.state tx.old tx.new result (query_of_files_page object from) }
+{
+    ask_files(
+        tx,
+        alloc,
+        "SELECT file, object, name, media, size, tag, deposited, behalf, by_reference, sha256 FROM files WHERE object = ?1 AND file >= ?2 ORDER BY file LIMIT 512",
+        object,
+        from,
     )
 }

@@ -29,7 +29,7 @@ pub use blocks::{
 pub use calls::Statements;
 pub use columns::ColumnKind;
 pub use fault::fault_of;
-pub use files::{delete_file, delete_files, files_of, find_file, insert_file};
+pub use files::{delete_file, delete_files, files_of, files_page, find_file, insert_file};
 pub use format::write_version;
 pub use metadata::{
     MetadataRow, delete_metadata, insert_metadata, last_text, metadata_of, texts_from,
@@ -40,6 +40,7 @@ pub use objects::{delete_object, find_object, insert_object, next_object, write_
 pub use owner::{
     BlockKey, BlockOwner, BlockPlace, RUN_LENGTH, is_storable_owner, owner_params, run_end,
 };
+pub use reading::PAGE_SIZE;
 pub use segments::{SegmentRow, delete_segments, insert_segment, segments_of};
 pub use sha512s::{FileSha512, delete_sha512, find_sha512, insert_sha512};
 pub use state::{StateRow, read_state, write_state};

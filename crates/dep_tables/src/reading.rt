@@ -20,6 +20,9 @@ use sqlite::Row;
 use sqlite::types::ValueRef;
 use std::alloc::{AllocError, Global};
 
+/// How many rows a page has at most. Where it has fewer, there are no more.
+pub const PAGE_SIZE: usize = 512;
+
 /// What one row represents.
 pub(crate) trait FromRow: Sized {
     /// How many columns it has.
