@@ -67,17 +67,33 @@ impl FilesAhead {
         self.held = 0;
     }
 
-    /// Keeps what was read of an object that had the first row and has the second one now, where files were only added
-    /// to it, so that what is left is read on.
-    pub fn follow(&mut self, before: &ObjectRow, after: &ObjectRow)
-        ensures { (s t : State) → IsSound t → AreFilesAhead s self.old → AreFilesAhead t self.old
+    /// Takes out what was read of an object that had the first row and has the second one now, where files were only added to
+    /// it: for [`load_files`], which reads the rest then.
+    pub fn follow(
+        &mut self,
+        alloc: Global,
+        before: &ObjectRow,
+        after: &ObjectRow,
+    ) -> FilesAhead
+        ensures left { (s : State) → AreFilesAhead s self.old → AreFilesAhead s self.new }
+        ensures followed { (s t : State) → IsSound t → AreFilesAhead s self.old
             → HasRow s before.now → HasRow t after.now → AddsFiles s t before.now.object
-            → AreFilesAhead t self.new }
+            → AreFilesAhead t result }
     {
-        let Some(read) = self.read.take() else {
-            return;
-        };
-        self.read = Some(read.followed(before, after));
+        if before.object != after.object {
+            return FilesAhead::new();
+        }
+        let read = self.take(alloc, before);
+        FilesAhead {
+            read: Some(ReadFiles {
+                object: after.object,
+                tag: after.object_tag,
+                rows: read.rows,
+                sha512s: read.sha512s,
+                has_all: false,
+            }),
+            held: 0,
+        }
     }
 
     // Takes out what was read of the object of this row, which may be nothing.
@@ -132,27 +148,6 @@ impl ReadFiles {
             tag: row.object_tag,
             rows: Vec::new(alloc),
             sha512s: Vec::new(alloc),
-            has_all: false,
-        }
-    }
-
-    // What was read, once its object has another row.
-    fn followed(self, before: &ObjectRow, after: &ObjectRow) -> ReadFiles
-        ensures { (s t : State) → IsSound t → AreFilesOf s self → AreFilesOf t self
-            → HasRow s before.now → HasRow t after.now → AddsFiles s t before.now.object
-            → AreFilesOf t result }
-    {
-        if self.object != before.object
-            || self.tag != before.object_tag
-            || self.object != after.object
-        {
-            return self;
-        }
-        ReadFiles {
-            object: self.object,
-            tag: after.object_tag,
-            rows: self.rows,
-            sha512s: self.sha512s,
             has_all: false,
         }
     }

@@ -45,7 +45,12 @@ impl RowsAhead {
 
     /// Takes out the files that were read of an object before it was added to, which are the first of those that it has now, where
     /// both rows are known.
-    pub fn follow(&mut self, before: Option<ObjectRow>, after: Option<ObjectRow>) -> RowsAhead
+    pub fn follow(
+        &mut self,
+        alloc: Global,
+        before: Option<ObjectRow>,
+        after: Option<ObjectRow>,
+    ) -> RowsAhead
         ensures left { (s : State) → AreRowsAhead s self.old → AreRowsAhead s self.new }
         ensures followed { (s t : State) → IsSound t → AreRowsAhead s self.old
             → AddsTo s t before after → AreRowsAhead t result }
@@ -53,7 +58,7 @@ impl RowsAhead {
         match (before, after) {
             (Some(before), Some(after)) => RowsAhead {
                 texts: TextsAhead::new(),
-                files: self.files.follow(&before, &after),
+                files: self.files.follow(alloc, &before, &after),
             },
             _ => RowsAhead::new(),
         }
