@@ -1,5 +1,6 @@
 """Parts of checks/host.py: large segments, and how long one client's requests make the others wait."""
 
+import hashlib
 import json
 import os
 import tempfile
@@ -9,6 +10,7 @@ from concurrent.futures import ThreadPoolExecutor
 
 from depositing import JSON, Client, as_file, by_reference, exchange, first_file
 from expectations import expect
+from growing import fill_object
 from hosted import MIB, PATIENCE, Host, rest
 
 # ---- segments ----
@@ -167,8 +169,8 @@ def hashed_in_turn(folder, path):
     return took
 
 
-# Texts are read ahead of a request that shows them, so many at once.
-PAGE = 512
+# Texts and files are read ahead of a request that shows them, so many at once.
+PAGE, FILES = 512, 20_000
 
 
 def shown_whole(host):
@@ -180,6 +182,36 @@ def shown_whole(host):
         _, document = client.ask(200, "GET", f"{host.path_of(reply.headers['Location'])}/metadata")
     came = {name: it if isinstance(it, list) else [it] for name, it in json.loads(document).items() if not name.startswith("@")}
     expect(f"the metadata of {len(texts):,} names", came == texts, True)
+
+
+def listed_whole(count):
+    """An object of so many files lists all of them, and one more behind a POST. Returns how long others would have waited at most."""
+    with tempfile.TemporaryDirectory() as folder:
+        with Host(folder) as host, Client(host, PATIENCE) as client:
+            reply, _ = client.ask(201, "POST", "/service", b"x", as_file("a"))
+            path = host.path_of(reply.headers["Location"])
+        fill_object(host.store, count)
+        with Host(folder) as host:
+            told = []
+            for what, *request in (("status", "GET", path), ("bag", "GET", f"{path}/bag"), ("reply", "POST", path, b"x", as_file("a")),
+                                   *((it, "GET", f"{path}/bag/manifest-{it}.txt") for it in ("sha256", "sha512"))):
+                with Client(host, PATIENCE) as client:
+                    _, listed = client.ask(200, *request)
+                count += what == "reply"
+                expect(f"the {what} of {count:,} files", numbers_in(what, listed), list(range(1, count + 1)))
+                if what != "reply":
+                    told.append(is_short(f"the {what} of {count:,} files", lambda: waited(host, 200, *request)))
+            return max(told)
+
+
+def numbers_in(what, listed):
+    """The numbers of the files that a status or a bag lists, or a manifest with the digest of their content."""
+    if what in ("status", "reply"):
+        return [int(it["@id"].rpartition("/")[2]) for it in json.loads(listed)["links"]]
+    lines = listed.decode().split("\n")
+    if what == "bag":
+        return [int(it.split("/")[1]) for it in lines if it.startswith("data/")]
+    return [int(it.partition(f"{hashlib.new(what, b'x').hexdigest()}  data/")[2].partition("/")[0]) for it in lines[:-1]]
 
 
 # References of a document of more bytes are read ahead of its request, so many at once.
@@ -235,6 +267,7 @@ def waits():
             told = [is_short(what, lambda: waited(host, *request)) for what, request in asked.items()]
             shown_whole(host)
             read_in_parts(host)
+        told += [listed_whole(it) for it in (1, PAGE, 2 * PAGE + 1, FILES)]
         told += [is_short(f"the digests of {SIZE // MIB} MiB behind a restart", lambda: waited_anew(folder, [path])),
                  is_short(f"those of {SMALL} uploads", lambda: waited_anew(folder, small))]
         in_turn = hashed_in_turn(folder, path)

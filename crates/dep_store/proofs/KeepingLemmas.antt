@@ -17,7 +17,7 @@ use Rattle.dep_staging.specs.declared.running.RunningHash.{RunningHash}
 use Rattle.dep_views.specs.Ahead.{IsAhead}
 use Rattle.dep_views.specs.declared.ahead.WorkAhead.{WorkAhead}
 use Rattle.dep_staging.proofs.AheadLemmas.{still_hashed}
-use Rattle.dep_requests.proofs.AheadStill.{texts_still}
+use Rattle.dep_requests.proofs.AheadStill.{rows_still}
 use Rattle.dep_transactions.specs.Performing.{KeepsWorkAhead}
 use Rattle.dep_transactions.specs.States.{StoreRepresents}
 use Rattle.dep_types.specs.Conditions.{Condition, Represents, HasCleanDisk}
@@ -37,11 +37,11 @@ still_running s t run keeps (inr begun) = inr (record {
       still_hashed before.0.segments after.segments run before.2 (begun.hashed before.0 before.1);
 })
 
--- and what was read of an object are its texts
+-- and what was read of objects is theirs
 pub still_ahead : (s t : State) (ahead : WorkAhead) → KeepsSegments s t → KeepsObjects s t → IsAhead s ahead → IsAhead t ahead
 still_ahead s t ahead segments objects are = record {
   hashes = λ kept there. let it = are.hashes kept there in (still_running s t kept.1 segments it.0, it.1);
-  texts = texts_still s t ahead.texts objects are.texts;
+  rows = rows_still s t ahead.rows objects are.rows;
 }
 
 -- ---- what a call leaves, as what was hashed is what was received

@@ -27,7 +27,7 @@ use Rattle.dep_transactions.specs.States.{StoreRepresents}
 use Rattle.dep_transactions.specs.Transactions.{FindsOpen, Transacts}
 use Rattle.dep_transactions.proofs.Transacting.{IsSettled, after_back, given_back_then}
 use Rattle.dep_schema.proofs.Streams.{IsSized}
-use Rattle.dep_requests.specs.Caching.{has_value, is_plain_read, reads_all_texts}
+use Rattle.dep_requests.specs.Caching.{has_value, is_plain_read, lists_many_rows}
 use Rattle.dep_store.specs.Caching.{IsOfSize}
 use Rattle.dep_store.specs.Shut.{StoreFailsIfShut}
 use Rattle.dep_store.proofs.ShutLemmas.{state_back, was_open_then}
@@ -47,7 +47,7 @@ no_value P Bad h = tt
 
 pub plain_reads : (op : Operation) → IsTrue (is_plain_read op) → IsTrue (is_safe op.target.method) × AreFit op.fields
 plain_reads op plain =
-    let all = all_true (is_safe op.target.method) (not (has_value op.fields.disposition)) (not (has_value op.fields.content_type)) (not (reads_all_texts op.target)) plain in
+    let all = all_true (is_safe op.target.method) (not (has_value op.fields.disposition)) (not (has_value op.fields.content_type)) (not (lists_many_rows op.target)) plain in
     (all.0, record { kind = no_value _ op.fields.disposition all.1; media = no_value _ op.fields.content_type all.2 })
 
 by_rule : (config : Config) (s : State) (op : Operation) → IsTrue (is_safe op.target.method) → (found : Option Refusal) → (step_by config s op found).state ≡ s

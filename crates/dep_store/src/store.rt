@@ -209,9 +209,8 @@ impl<S: Alter> Store<S> {
     }
 
     /// Does a part of what the answer to a request needs, before it is answered, and returns whether more may be left: up to 16
-    /// blocks (1 MiB) of the uploads that references in it name are hashed, or some of the texts of an object's metadata that
-    /// its reply is made of are read. Nothing is hashed for a request that is refused whatever they are. It changes nothing
-    /// that is kept.
+    /// blocks (1 MiB) of the uploads that references in it name are hashed, or some of the texts or files of an object that its
+    /// reply lists are read. Nothing is hashed for a request that is refused whatever they are. It changes nothing that is kept.
     pub fn prepare(
         &mut self,
         ahead: &mut WorkAhead,

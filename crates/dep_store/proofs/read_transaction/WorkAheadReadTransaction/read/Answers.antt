@@ -4,6 +4,6 @@ pub returns : goal.returns
 returns g c =
     let did = c.hash_ahead.ensures.does in
     record {
-      reports = λ is_open clean inside ours s are sound ahead. record { hashes = did.map is_open clean ours s are sound ahead.hashes; texts = ahead.texts };
+      reports = λ is_open clean inside ours s are sound ahead. record { hashes = did.map is_open clean ours s are sound ahead.hashes; rows = ahead.rows };
       stays = did.keeps.stays;
     }
