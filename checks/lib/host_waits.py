@@ -267,7 +267,7 @@ def waits():
             told = [is_short(what, lambda: waited(host, *request)) for what, request in asked.items()]
             shown_whole(host)
             read_in_parts(host)
-        told += [listed_whole(it) for it in (1, PAGE, 2 * PAGE + 1, FILES)]
+        told += [listed_whole(it) for it in (2, PAGE, 2 * PAGE + 1, FILES)]
         told += [is_short(f"the digests of {SIZE // MIB} MiB behind a restart", lambda: waited_anew(folder, [path])),
                  is_short(f"those of {SMALL} uploads", lambda: waited_anew(folder, small))]
         in_turn = hashed_in_turn(folder, path)
