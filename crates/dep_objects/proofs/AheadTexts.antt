@@ -1,15 +1,14 @@
 -- Texts of an object that were read ahead.
-use Rattle.std.proofs.Common.{◌≡◌, ◌∙◌, true, false, Option, Some, None, fold, map as each, refl, sym, ap, subst}
-use Rattle.std.specs.Prelude.{option_map}
+use Rattle.std.proofs.Common.{◌≡◌, ◌∙◌, true, false, Some, fold, map as each, sym, ap, subst}
 use Rattle.std.specs.Option.{option_map_or}
 use Rattle.std.specs.FinMap as finmap
 use Rattle.dep_types.specs.State.{State, Object, Texts}
 use Rattle.dep_types.specs.Sound.{IsSound}
-use Rattle.dep_types.specs.Rows.{object_row}
 use Rattle.dep_types.specs.declared.rows.ObjectRow.{ObjectRow}
 use Rattle.dep_row_maps.specs.Stored.{grouped, HasRow, listed, metadata_rows, pair_seen, with_added_text}
 use Rattle.dep_row_maps.specs.TablesAre.{metadata_at}
 use Rattle.dep_row_maps.specs.ReadLaws.{pair_of}
+use Rattle.dep_files.proofs.AheadFiles.{its_object}
 use Rattle.dep_objects.specs.Objects.{IsDescribed}
 use Rattle.dep_objects.specs.Ahead.{AreTextsSoFar, IsPage, AreTextsOf, rows_before}
 use Rattle.dep_objects.specs.Texts.{closed}
@@ -17,15 +16,6 @@ use Rattle.dep_objects.specs.declared.ahead.TextsPage.{TextsPage}
 use Rattle.dep_objects.specs.declared.ahead.ReadTexts.{ReadTexts}
 use Rattle.dep_objects.proofs.Pages.{page_gathered}
 use Rattle.dep_objects.proofs.Puts.{described}
-
--- the object whose row this is
-module _ (s : State) (row : ObjectRow) (has : HasRow s row) where
-  pub its_object : (o : Object) × ((finmap.get s.objects row.object ≡ Some o) × (row ≡ object_row row.object o))
-  its_object = go (finmap.get s.objects row.object) refl has
-    where
-      go : (found : Option Object) → finmap.get s.objects row.object ≡ found → Some row ≡ option_map (object_row row.object) found → (o : Object) × ((finmap.get s.objects row.object ≡ Some o) × (row ≡ object_row row.object o))
-      go None is e = absurd (cc)
-      go (Some o) is e = let same : row ≡ object_row row.object o = cc in (o, (is, same))
 
 -- all of its texts
 pub whole_described : (s : State) (row : ObjectRow) (read : ReadTexts) → IsSound s → AreTextsOf s read → HasRow s row → read.object ≡ row.object → read.tag ≡ row.object_tag → read.is_whole ≡ true

@@ -12,16 +12,10 @@ ghost use Rattle.dep_objects.specs.Ahead.{AreReadAhead, IsPage, AreTextsOf, Keep
 
 use crate::gathering::{NamedTexts, close, gather_rows};
 use crate::objects::find_object;
-use dep_tables::{LIMIT, MetadataRow, Statements, texts_from, texts_from_name};
+use dep_files::MOST_HELD;
+use dep_tables::{LIMIT, MetadataRow, PAGE_SIZE, Statements, texts_from, texts_from_name};
 use dep_types::{Metadata, ObjectRow, StoreFault, Text};
 use std::alloc::{AllocError, Global};
-
-/// So many requests for texts of other objects may be held back, one after another, while those of one object are read:
-/// as many as there are connections, so that the request for which they are read has had its turn.
-const MOST_HELD: u32 = 1_024;
-
-/// So many rows has a page of texts, where more are left.
-const PAGE_SIZE: usize = 512;
 
 /// A name, and a place among its texts.
 #[derive(Drop)]

@@ -1,7 +1,7 @@
 use Rattle.std.proofs.Common.{◌∙◌, ap, sym, subst, map as each, ◌<◌}
 use Rattle.dep_types.specs.declared.rows.ObjectRow.{ObjectRow}
 use Rattle.dep_row_maps.specs.Stored.{grouped, pair_seen}
-use Rattle.dep_objects.proofs.AheadTexts.{its_object}
+use Rattle.dep_files.proofs.AheadFiles.{its_object}
 use Rattle.dep_objects.proofs.Pages.{none_before}
 use Rattle.dep_objects.proofs.ahead.ReadTexts.none_of.Goals as goal
 
