@@ -28,7 +28,7 @@ pub record AreFilesOf (s : State) (read : ReadFiles) : Type 0 where
 
 -- of each state the files that were read are its own
 abbrev pub AreFilesAhead : State → FilesAhead → Type 0
-AreFilesAhead s ahead = IfSome ahead.read (AreFilesOf s)
+AreFilesAhead s ahead = IfSome ahead.held.read (AreFilesOf s)
 
 -- the object has in the second state the files that it had in the first, and behind these what was added
 abbrev pub AddsFiles : (s t : State) → (n : ℕ) → Type 0

@@ -11,14 +11,11 @@ ghost use Rattle.dep_row_maps.specs.ReadLaws.{listed_files};
 ghost use Rattle.dep_row_maps.specs.Clauses.{Finds, MayReadOver, ReadsOver};
 ghost use Rattle.dep_files.specs.Ahead.{AddsFiles, AreFilesAhead, AreFilesOf, AreFilesSoFar, number_behind};
 
+use crate::held::{Held, ReadOfObject};
 use crate::loading::read_sha512s;
 use dep_tables::{LIMIT, PAGE_SIZE, Statements, files_of, files_page};
 use dep_types::{FileRow, List, ObjectRow, StoreFault};
 use std::alloc::{AllocError, Global};
-
-/// So many requests for rows of other objects may be held back, one after another, while those of one object are read:
-/// as many as there are connections, so that the request for which they are read has had its turn.
-pub const MOST_HELD: u32 = 1_024;
 
 /// The files of one state of an object, as far as they were read: the first of them.
 #[derive(Drop)]
@@ -33,12 +30,24 @@ pub(crate) struct ReadFiles {
     has_all: bool,
 }
 
+impl ReadOfObject for ReadFiles {
+    ghost object_read = { λ read. read.object };
+
+    ghost tag_read = { λ read. read.tag };
+
+    fn is_of(&self, row: &ObjectRow) -> bool {
+        self.object == row.object && self.tag == row.object_tag
+    }
+
+    fn is_of_another(&self, row: &ObjectRow) -> bool {
+        self.object != row.object
+    }
+}
+
 /// The files of an object that were read ahead of a request that lists them. They are lost with the process.
 #[derive(Drop)]
 pub struct FilesAhead {
-    read: Option<ReadFiles>,
-    /// How many requests for others were held back since a part of these was read.
-    held: u32,
+    held: Held<ReadFiles>,
 }
 
 /// The files of an object, by ascending number, with the SHA-512 value of each.
@@ -54,8 +63,7 @@ impl FilesAhead {
         ensures { (s : State) → AreFilesAhead s result }
     {
         FilesAhead {
-            read: None,
-            held: 0,
+            held: Held::nothing(),
         }
     }
 
@@ -63,8 +71,7 @@ impl FilesAhead {
     pub fn forget(&mut self)
         ensures { (s : State) → AreFilesAhead s self.new }
     {
-        self.read = None;
-        self.held = 0;
+        self.held.forget();
     }
 
     /// Takes out what was read of an object that had the first row and has the second one now, where files were only added to
@@ -84,16 +91,15 @@ impl FilesAhead {
             return FilesAhead::new();
         }
         let read = self.take(alloc, before);
-        FilesAhead {
-            read: Some(ReadFiles {
-                object: after.object,
-                tag: after.object_tag,
-                rows: read.rows,
-                sha512s: read.sha512s,
-                has_all: false,
-            }),
-            held: 0,
-        }
+        let mut held = Held::nothing();
+        held.put(ReadFiles {
+            object: after.object,
+            tag: after.object_tag,
+            rows: read.rows,
+            sha512s: read.sha512s,
+            has_all: false,
+        });
+        FilesAhead { held }
     }
 
     // Takes out what was read of the object of this row, which may be nothing.
@@ -102,38 +108,25 @@ impl FilesAhead {
         ensures taken { (s : State) → HasRow s row.now → AreFilesAhead s self.old
             → AreFilesSoFar row.now.object (files_at s.objects row.now.object) result }
     {
-        match self.read.take() {
-            Some(read) if read.object == row.object && read.tag == row.object_tag => read,
-            other => {
-                self.read = other;
-                ReadFiles::none_of(alloc, row)
-            }
+        match self.held.take(row) {
+            Some(read) => read,
+            None => ReadFiles::none_of(alloc, row),
         }
     }
 
-    // Takes out what was read of the object of this row, to read on. It is `None` where files of another object are held,
-    // for which a request waits.
+    // The same, to read on. It is `None` where the request is passed over.
     fn take_on(&mut self, alloc: Global, row: &ObjectRow) -> Option<ReadFiles>
         ensures left { (s : State) → AreFilesAhead s self.old → AreFilesAhead s self.new }
         ensures taken { IfSome result (λ read. (s : State) → IsSound s → HasRow s row.now
             → AreFilesAhead s self.old → AreFilesOf s read) }
     {
-        match self.read.take() {
-            Some(read) if read.object == row.object && read.tag == row.object_tag => Some(read),
-            Some(read) if read.object != row.object && self.held < MOST_HELD => {
-                self.read = Some(read);
-                self.held += 1;
-                None
-            }
-            _ => Some(ReadFiles::none_of(alloc, row)),
+        if self.held.passes_over(row) {
+            return None;
         }
-    }
-
-    fn put(&mut self, read: ReadFiles)
-        ensures { (s : State) → AreFilesOf s read → AreFilesAhead s self.new }
-    {
-        self.read = Some(read);
-        self.held = 0;
+        match self.held.take(row) {
+            Some(read) => Some(read),
+            None => Some(ReadFiles::none_of(alloc, row)),
+        }
     }
 }
 
@@ -261,7 +254,7 @@ pub fn read_files_ahead<T: Statements>(
     };
     let read = read_on(tx, alloc, read, with_sha512s)?;
     let is_left = read.lacks(with_sha512s);
-    ahead.put(read);
+    ahead.held.put(read);
     Ok(is_left)
 }
 
