@@ -45,7 +45,7 @@ pub record AreTextsOf (s : State) (read : ReadTexts) : Type 0 where
 
 -- of each state the texts that were read are its own
 abbrev pub AreReadAhead : State → TextsAhead → Type 0
-AreReadAhead s ahead = IfSome ahead.read (AreTextsOf s)
+AreReadAhead s ahead = IfSome ahead.held.read (AreTextsOf s)
 
 -- what a call leaves of them that reads more
 abbrev pub KeepsRead : State → (before now : TextsAhead) → Type 0

@@ -12,7 +12,7 @@ ghost use Rattle.dep_objects.specs.Ahead.{AreReadAhead, IsPage, AreTextsOf, Keep
 
 use crate::gathering::{NamedTexts, close, gather_rows};
 use crate::objects::find_object;
-use dep_files::MOST_HELD;
+use dep_files::{Held, ReadOfObject};
 use dep_tables::{LIMIT, MetadataRow, PAGE_SIZE, Statements, texts_from, texts_from_name};
 use dep_types::{Metadata, ObjectRow, StoreFault, Text};
 use std::alloc::{AllocError, Global};
@@ -45,12 +45,24 @@ pub(crate) struct ReadTexts {
     is_whole: bool,
 }
 
+impl ReadOfObject for ReadTexts {
+    ghost object_read = { λ read. read.object };
+
+    ghost tag_read = { λ read. read.tag };
+
+    fn is_of(&self, row: &ObjectRow) -> bool {
+        self.object == row.object && self.tag == row.object_tag
+    }
+
+    fn is_of_another(&self, row: &ObjectRow) -> bool {
+        self.object != row.object
+    }
+}
+
 /// The texts of an object that were read ahead of a request that shows them. They are lost with the process.
 #[derive(Drop)]
 pub struct TextsAhead {
-    read: Option<ReadTexts>,
-    /// How many requests for others were held back since a part of these was read.
-    held: u32,
+    held: Held<ReadTexts>,
 }
 
 impl TextsAhead {
@@ -59,8 +71,7 @@ impl TextsAhead {
         ensures { (s : State) → AreReadAhead s result }
     {
         TextsAhead {
-            read: None,
-            held: 0,
+            held: Held::nothing(),
         }
     }
 
@@ -71,33 +82,26 @@ impl TextsAhead {
             → HasRow s row.now
             → IsDescribed s row.now.object (record { row = row.now; metadata = metadata })) }
     {
-        match self.read.take() {
-            Some(read)
-                if read.is_whole && read.object == row.object && read.tag == row.object_tag => {
-                Some(read.metadata)
-            }
-            other => {
-                self.read = other;
-                None
-            }
+        let read = self.held.take(row)?;
+        if read.is_whole {
+            return Some(read.metadata);
         }
+        self.held.put(read);
+        None
     }
 
-    /// Takes out what was read of the object of this row, which may be nothing yet. It is `None` where texts of another
-    /// object are held, for which a request waits.
+    // Takes out what was read of the object of this row, which may be nothing yet. It is `None` where the request is passed over.
     fn take_on(&mut self, alloc: Global, row: &ObjectRow) -> Option<ReadTexts>
         ensures left { (s : State) → AreReadAhead s self.old → AreReadAhead s self.new }
         ensures taken { IfSome result (λ read. (s : State) → IsSound s → AreReadAhead s self.old
             → HasRow s row.now → AreTextsOf s read) }
     {
-        match self.read.take() {
-            Some(read) if read.object == row.object && read.tag == row.object_tag => Some(read),
-            Some(read) if read.object != row.object && self.held < MOST_HELD => {
-                self.read = Some(read);
-                self.held += 1;
-                None
-            }
-            _ => Some(ReadTexts::none_of(alloc, row)),
+        if self.held.passes_over(row) {
+            return None;
+        }
+        match self.held.take(row) {
+            Some(read) => Some(read),
+            None => Some(ReadTexts::none_of(alloc, row)),
         }
     }
 
@@ -105,15 +109,7 @@ impl TextsAhead {
     pub fn forget(&mut self)
         ensures { (s : State) → AreReadAhead s self.new }
     {
-        self.read = None;
-        self.held = 0;
-    }
-
-    fn put(&mut self, read: ReadTexts)
-        ensures { (s : State) → AreTextsOf s read → AreReadAhead s self.new }
-    {
-        self.read = Some(read);
-        self.held = 0;
+        self.held.forget();
     }
 }
 
@@ -249,11 +245,11 @@ pub fn read_ahead<T: Statements>(
         return Ok(true);
     };
     if read.is_whole {
-        ahead.put(read);
+        ahead.held.put(read);
         return Ok(false);
     }
     let read = read_on(tx, alloc, read)?;
     let is_left = !read.is_whole;
-    ahead.put(read);
+    ahead.held.put(read);
     Ok(is_left)
 }
