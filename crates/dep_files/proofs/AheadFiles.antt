@@ -1,5 +1,5 @@
 -- The first files of an object, and those that follow them.
-use Rattle.std.proofs.Common.{◌≡◌, ℕ, ◌+◌, ◌-◌, ◌<◌, ◌≤◌, min, List, [], ◌∷◌, ◌++◌, length, take, drop, map, Option, Some, None, refl, sym, ap, ◌∙◌, arith}
+use Rattle.std.proofs.Common.{◌≡◌, ℕ, ◌+◌, ◌-◌, ◌<◌, ◌≤◌, min, List, [], ◌∷◌, ◌++◌, length, take, drop, map, Option, Some, None, IfSome, refl, sym, ap, subst, ◌∙◌, arith}
 use Rattle.std.specs.Prelude.{option_map}
 use Rattle.std.specs.List.{slice_get}
 use Rattle.std.specs.Option.{option_map_or}
@@ -11,13 +11,16 @@ use Rattle.sqlite.proofs.MarkLemmas.{slice_get-take}
 use Rattle.dep_types.specs.Maps.{Numbered}
 use Rattle.dep_types.specs.State.{State, Object, File}
 use Rattle.dep_types.specs.Rows.{object_row}
+use Rattle.dep_types.specs.Sound.{IsSound}
 use Rattle.dep_types.specs.declared.rows.FileRow.{FileRow}
 use Rattle.dep_types.specs.declared.rows.ObjectRow.{ObjectRow}
 use Rattle.dep_row_maps.specs.Stored.{HasRow}
 use Rattle.dep_row_maps.specs.TablesAre.{files_at}
-use Rattle.dep_row_maps.specs.ReadLaws.{listed_files, files_from}
+use Rattle.dep_row_maps.specs.ReadLaws.{file_rows, files_from}
 use Rattle.dep_row_maps.proofs.ListedFiles.{files_from_none, files_behind}
 use Rattle.dep_files.specs.Ahead.{number_behind}
+use Rattle.dep_files.specs.Held.{IsReadPart, read_part}
+use Rattle.dep_files.specs.declared.held.ReadPart.{ReadPart}
 
 -- ---- the first of a list
 
@@ -52,15 +55,34 @@ module _ (s : State) (row : ObjectRow) (has : HasRow s row) where
       go None is e = absurd (cc)
       go (Some o) is e = let same : row ≡ object_row row.object o = cc in (o, (is, same))
 
+-- what is read of its object is held for it
+module _ {P : Type 0} (IsPartOf : ℕ → Object → P → Type 0) (s : State) (row : ObjectRow) (has : HasRow s row) (part : P) where
+  pub held_part : IsSound s → ((o : Object) → finmap.get s.objects row.object ≡ Some o → IsPartOf row.object o part) → IsReadPart IsPartOf s (read_part row part)
+  held_part sound are =
+      let its = its_object s row has in
+      record {
+        given = subst (λ tag. tag < s.next.change) (sym (ap (λ (r : ObjectRow). r.object_tag) its.1.1)) (sound.objects row.object its.0 its.1.0).tag_given.below;
+        part = λ o there tagged. are o there;
+      }
+
+  -- and taken out of it
+  pub taken_part : {held : Option (ReadPart P)} → held ≡ Some (read_part row part) → IfSome held (IsReadPart IsPartOf s) → (o : Object) → finmap.get s.objects row.object ≡ Some o → IsPartOf row.object o part
+  taken_part is are o there =
+      let its = its_object s row has in
+      let both : Some its.0 ≡ Some o = sym its.1.0 ∙ there in
+      let same : its.0 ≡ o = cc in
+      let tagged : o.tag ≡ row.object_tag = sym (ap (λ (r : ObjectRow). r.object_tag) its.1.1 ∙ ap (λ (it : Object). it.tag) same) in
+      (subst (λ (x : Option (ReadPart P)). IfSome x (IsReadPart IsPartOf s)) is are).part o there tagged
+
 -- its files
 pub files_are : (s : State) (n : ℕ) (o : Object) → finmap.get s.objects n ≡ Some o → files_at s.objects n ≡ o.files
 files_are s n o there = ap (λ x. option_map_or (λ (y : Object). y.files) x finmap.empty) there
 
 -- ---- the rows behind those
 
-module _ (n : ℕ) (files : Numbered File) (rows : List FileRow) (first : rows ≡ take (length rows) (listed_files n files)) where
+module _ (n : ℕ) (files : Numbered File) (rows : List FileRow) (first : rows ≡ take (length rows) (file_rows n files)) where
   abbrev all : List FileRow
-  all = listed_files n files
+  all = file_rows n files
 
   -- from the number behind the last on they are those that are left
   pub left_from : files_from (number_behind rows) all ≡ drop (length rows) all

@@ -13,7 +13,7 @@ use Rattle.dep_types.specs.State as machine
 use Rattle.dep_types.specs.State.{File}
 use Rattle.dep_types.specs.Rows.{file_row, sha512s_of}
 use Rattle.dep_types.specs.declared.rows.FileRow.{FileRow}
-use Rattle.dep_row_maps.specs.ReadLaws.{listed_files}
+use Rattle.dep_row_maps.specs.ReadLaws.{file_rows}
 use Rattle.dep_row_maps.specs.TablesAre.{files_at}
 use Rattle.dep_row_maps.proofs.Left.{entry_found}
 
@@ -43,12 +43,12 @@ module _ (s : machine.State) (n : ℕ) where
           slice_get-map value_of es p ∙ ap (option_map value_of) is ∙ ap Some (sym (its n e.1 has))
 
   -- one more value behind those of the files before it
-  pub one_more_value : (rows : List FileRow) → rows ≡ take (length rows) (listed_files n (files_at s.objects n)) → (p : ℕ) (row : FileRow) (value : List ℕ) (values now : List (List ℕ)) → slice_get rows p ≡ Some row → IsValueOf s row value
+  pub one_more_value : (rows : List FileRow) → rows ≡ take (length rows) (file_rows n (files_at s.objects n)) → (p : ℕ) (row : FileRow) (value : List ℕ) (values now : List (List ℕ)) → slice_get rows p ≡ Some row → IsValueOf s row value
       → values ≡ take p (sha512s_of (files_at s.objects n)) → now ≡ values ++ value ∷ [] → now ≡ take (p + 1) (sha512s_of (files_at s.objects n))
   one_more_value rows first p row value values now at its before grown =
       let files = finmap.entries (files_at s.objects n) in
       let all = sha512s_of (files_at s.objects n) in
-      let listed = listed_files n (files_at s.objects n) in
+      let listed = file_rows n (files_at s.objects n) in
       let there = all_from IsThere files (λ e has. finmap.get-entries (files_at s.objects n) e.0 ∙ entry_found files (finmap.entries_sorted (files_at s.objects n)) e has) in
       let in_all : slice_get listed p ≡ Some row = sym (slice_get-take (length rows) listed p (slice_get_within rows p row at)) ∙ ap (λ l. slice_get l p) (sym first) ∙ at in
       let next : slice_get all p ≡ Some value = value_at files there p row value in_all its in

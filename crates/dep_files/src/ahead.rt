@@ -7,41 +7,24 @@ ghost use Rattle.dep_types.specs.Sound.{IsSound};
 ghost use Rattle.dep_types.specs.Rows.{sha512s_of};
 ghost use Rattle.dep_row_maps.specs.Stored.{HasRow};
 ghost use Rattle.dep_row_maps.specs.TablesAre.{files_at};
-ghost use Rattle.dep_row_maps.specs.ReadLaws.{listed_files};
+ghost use Rattle.dep_row_maps.specs.ReadLaws.{file_rows};
 ghost use Rattle.dep_row_maps.specs.Clauses.{Finds, MayReadOver, ReadsOver};
-ghost use Rattle.dep_files.specs.Ahead.{AddsFiles, AreFilesAhead, AreFilesOf, AreFilesSoFar, number_behind};
+ghost use Rattle.dep_files.specs.Ahead.{AddsFiles, AreFilesAhead, AreFilesSoFar, ReadsOn, number_behind};
 
-use crate::held::{Held, ReadOfObject};
+use crate::held::Held;
 use crate::loading::read_sha512s;
 use dep_tables::{LIMIT, PAGE_SIZE, Statements, files_of, files_page};
 use dep_types::{FileRow, List, ObjectRow, StoreFault};
 use std::alloc::{AllocError, Global};
 
-/// The files of one state of an object, as far as they were read: the first of them.
+/// The files of an object, as far as they were read: the first of them.
 #[derive(Drop)]
 pub(crate) struct ReadFiles {
-    object: u64,
-    /// The object's tag: once the object is changed it has another.
-    tag: u64,
     rows: Vec<FileRow>,
     /// The SHA-512 values of the first of these.
     sha512s: Vec<[u8; 64]>,
     /// Whether all rows were read, so that no query is asked for more of them.
     has_all: bool,
-}
-
-impl ReadOfObject for ReadFiles {
-    ghost object_read = { λ read. read.object };
-
-    ghost tag_read = { λ read. read.tag };
-
-    fn is_of(&self, row: &ObjectRow) -> bool {
-        self.object == row.object && self.tag == row.object_tag
-    }
-
-    fn is_of_another(&self, row: &ObjectRow) -> bool {
-        self.object != row.object
-    }
 }
 
 /// The files of an object that were read ahead of a request that lists them. They are lost with the process.
@@ -92,13 +75,12 @@ impl FilesAhead {
         }
         let read = self.take(alloc, before);
         let mut held = Held::nothing();
-        held.put(ReadFiles {
-            object: after.object,
-            tag: after.object_tag,
+        let files = ReadFiles {
             rows: read.rows,
             sha512s: read.sha512s,
             has_all: false,
-        });
+        };
+        held.put(after, files);
         FilesAhead { held }
     }
 
@@ -110,35 +92,29 @@ impl FilesAhead {
     {
         match self.held.take(row) {
             Some(read) => read,
-            None => ReadFiles::none_of(alloc, row),
+            None => ReadFiles::none(alloc),
         }
     }
 
     // The same, to read on. It is `None` where the request is passed over.
     fn take_on(&mut self, alloc: Global, row: &ObjectRow) -> Option<ReadFiles>
         ensures left { (s : State) → AreFilesAhead s self.old → AreFilesAhead s self.new }
-        ensures taken { IfSome result (λ read. (s : State) → IsSound s → HasRow s row.now
-            → AreFilesAhead s self.old → AreFilesOf s read) }
+        ensures taken { IfSome result (λ read. (s : State) → HasRow s row.now → AreFilesAhead s self.old
+            → AreFilesSoFar row.now.object (files_at s.objects row.now.object) read) }
     {
         if self.held.passes_over(row) {
             return None;
         }
-        match self.held.take(row) {
-            Some(read) => Some(read),
-            None => Some(ReadFiles::none_of(alloc, row)),
-        }
+        Some(self.take(alloc, row))
     }
 }
 
 impl ReadFiles {
-    // Nothing is read yet of the object of this row.
-    fn none_of(alloc: Global, row: &ObjectRow) -> ReadFiles
-        ensures first { (n : ℕ) (files : Numbered File) → AreFilesSoFar n files result }
-        ensures its { (s : State) → IsSound s → HasRow s row.now → AreFilesOf s result }
+    // Nothing is read yet.
+    fn none(alloc: Global) -> ReadFiles
+        ensures { (n : ℕ) (files : Numbered File) → AreFilesSoFar n files result }
     {
         ReadFiles {
-            object: row.object,
-            tag: row.object_tag,
             rows: Vec::new(alloc),
             sha512s: Vec::new(alloc),
             has_all: false,
@@ -181,18 +157,17 @@ fn joined(first: Vec<FileRow>, more: Vec<FileRow>) -> Result<Vec<FileRow>, Alloc
 fn with_page<T: Statements>(
     tx: &mut T,
     alloc: Global,
+    object: u64,
     read: ReadFiles,
 ) -> Result<ReadFiles, StoreFault>
     ensures does { ReadsOver T.lenders T.state tx.old tx.new result
-        (λ s. AreFilesOf s read → IfOk result (AreFilesOf s)) }
+        (λ s. ReadsOn object (files_at s.objects object) read result) }
 {
     let from = key_behind(read.rows.as_slice())?;
-    let page = files_page(tx, alloc, read.object, from)?;
+    let page = files_page(tx, alloc, object, from)?;
     let has_all = page.len() < PAGE_SIZE;
     let rows = joined(read.rows, page)?;
     Ok(ReadFiles {
-        object: read.object,
-        tag: read.tag,
         rows,
         sha512s: read.sha512s,
         has_all,
@@ -202,14 +177,12 @@ fn with_page<T: Statements>(
 // Reads the next SHA-512 values of an object's files.
 fn with_values<T: Statements>(tx: &mut T, read: ReadFiles) -> Result<ReadFiles, StoreFault>
     ensures does { MayReadOver T.lenders T.state tx.old tx.new result
-        (λ s. AreFilesOf s read → IfOk result (AreFilesOf s)) }
+        (λ s. (n : ℕ) → ReadsOn n (files_at s.objects n) read result) }
 {
     let first = read.sha512s;
     let end = read.rows.len().min(first.len() + PAGE_SIZE);
     let sha512s = read_sha512s(tx, read.rows.as_slice(), first, end)?;
     Ok(ReadFiles {
-        object: read.object,
-        tag: read.tag,
         rows: read.rows,
         sha512s,
         has_all: read.has_all,
@@ -220,14 +193,15 @@ fn with_values<T: Statements>(tx: &mut T, read: ReadFiles) -> Result<ReadFiles, 
 fn read_on<T: Statements>(
     tx: &mut T,
     alloc: Global,
+    object: u64,
     read: ReadFiles,
     with_sha512s: bool,
 ) -> Result<ReadFiles, StoreFault>
     ensures does { MayReadOver T.lenders T.state tx.old tx.new result
-        (λ s. AreFilesOf s read → IfOk result (AreFilesOf s)) }
+        (λ s. ReadsOn object (files_at s.objects object) read result) }
 {
     if !read.has_all {
-        return with_page(tx, alloc, read);
+        return with_page(tx, alloc, object, read);
     }
     if with_sha512s {
         return with_values(tx, read);
@@ -252,9 +226,9 @@ pub fn read_files_ahead<T: Statements>(
     let Some(read) = ahead.take_on(alloc, row) else {
         return Ok(true);
     };
-    let read = read_on(tx, alloc, read, with_sha512s)?;
+    let read = read_on(tx, alloc, row.object, read, with_sha512s)?;
     let is_left = read.lacks(with_sha512s);
-    ahead.held.put(read);
+    ahead.held.put(row, read);
     Ok(is_left)
 }
 
@@ -266,8 +240,8 @@ fn with_rest<T: Statements>(
     rows: Vec<FileRow>,
 ) -> Result<Vec<FileRow>, StoreFault>
     ensures does { ReadsOver T.lenders T.state tx.old tx.new result
-        (λ s. rows.items ≡ take (length rows.items) (listed_files object (files_at s.objects object))
-        → IfOk result (λ all. all.items ≡ listed_files object (files_at s.objects object))) }
+        (λ s. rows.items ≡ take (length rows.items) (file_rows object (files_at s.objects object))
+        → IfOk result (λ all. all.items ≡ file_rows object (files_at s.objects object))) }
 {
     let from = key_behind(rows.as_slice())?;
     let rest = files_of(tx, alloc, object, from)?;
@@ -284,7 +258,7 @@ pub fn load_files<T: Statements>(
 ) -> Result<List<FileRow>, StoreFault>
     ensures does { ReadsOver T.lenders T.state tx.old tx.new result
         (λ s. HasRow s row.now → AreFilesAhead s ahead.old → IfOk result (λ found.
-        found ≡ listed_files row.now.object (files_at s.objects row.now.object))) }
+        found ≡ file_rows row.now.object (files_at s.objects row.now.object))) }
     ensures left { (s : State) → AreFilesAhead s ahead.old → AreFilesAhead s ahead.new }
 {
     let read = ahead.take(alloc, row);
@@ -301,7 +275,7 @@ pub fn load_hashed_files<T: Statements>(
 ) -> Result<HashedFiles, StoreFault>
     ensures does { Finds T.lenders T.state tx.old tx.new result
         (λ s. HasRow s row.now → AreFilesAhead s ahead.old → IfOk result (λ found.
-        (found.rows ≡ listed_files row.now.object (files_at s.objects row.now.object))
+        (found.rows ≡ file_rows row.now.object (files_at s.objects row.now.object))
         × (found.sha512s ≡ sha512s_of (files_at s.objects row.now.object)))) }
     ensures left { (s : State) → AreFilesAhead s ahead.old → AreFilesAhead s ahead.new }
 {

@@ -1,6 +1,7 @@
 //! What is read of an object ahead of the request that shows it, and held for it.
 
-ghost use Rattle.std.specs.Prelude.{◌≡◌, ℕ, None, Some, IfSome, IsTrue};
+ghost use Rattle.std.specs.Prelude.{◌≡◌, None, Some, IfSome};
+ghost use Rattle.dep_files.specs.Held.{read_part};
 
 use dep_types::ObjectRow;
 
@@ -9,33 +10,27 @@ use dep_types::ObjectRow;
 const MOST_PASSED_OVER: u32 = 1_024;
 
 /// What was read of one state of an object.
-pub trait ReadOfObject: Drop {
+#[derive(Drop)]
+pub struct ReadPart<P> {
     /// The number of the object.
-    ghost object_read: { Self → ℕ };
-
-    /// The tag that it had: once the object is changed it has another.
-    ghost tag_read: { Self → ℕ };
-
-    /// Whether it is of the object of this row, which still has that tag.
-    fn is_of(&self, row: &ObjectRow) -> bool
-        ensures { IsTrue result → (object_read self.now ≡ row.now.object)
-            × (tag_read self.now ≡ row.now.object_tag) };
-
-    /// Whether it is of another object than that of this row, whatever its tag.
-    fn is_of_another(&self, row: &ObjectRow) -> bool;
+    pub object: u64,
+    /// The object's tag: once the object is changed it has another.
+    pub tag: u64,
+    /// What was read.
+    pub part: P,
 }
 
 /// What was read of one object at a time, for the request that waits for it. It is lost with the process.
 #[derive(Drop)]
-pub struct Held<R> {
-    read: Option<R>,
+pub struct Held<P> {
+    read: Option<ReadPart<P>>,
     /// How many requests for other objects were passed over since a part of it was read.
     passed_over: u32,
 }
 
-impl<R: ReadOfObject> Held<R> {
+impl<P: Drop> Held<P> {
     /// Nothing. It takes no memory.
-    pub fn nothing() -> Held<R>
+    pub fn nothing() -> Held<P>
         ensures { result.read ≡ None }
     {
         Held {
@@ -52,22 +47,28 @@ impl<R: ReadOfObject> Held<R> {
         self.passed_over = 0;
     }
 
-    /// Holds this in place of what was held.
-    pub fn put(&mut self, read: R)
-        ensures { self.new.read ≡ Some read }
+    /// Holds this of the object of the row, in place of what was held.
+    pub fn put(&mut self, row: &ObjectRow, part: P)
+        ensures { self.new.read ≡ Some (read_part row.now part) }
     {
-        self.read = Some(read);
+        self.read = Some(ReadPart {
+            object: row.object,
+            tag: row.object_tag,
+            part,
+        });
         self.passed_over = 0;
     }
 
-    /// Takes out what is held of the object of this row.
-    pub fn take(&mut self, row: &ObjectRow) -> Option<R>
+    /// Takes out what is held of the object of the row, as long as it has that tag.
+    pub fn take(&mut self, row: &ObjectRow) -> Option<P>
         ensures kept { result ≡ None → self.new.read ≡ self.old.read }
-        ensures taken { IfSome result (λ read. (self.old.read ≡ Some read) × (self.new.read ≡ None)
-            × (R.object_read read ≡ row.now.object) × (R.tag_read read ≡ row.now.object_tag)) }
+        ensures taken { IfSome result (λ part. (self.old.read ≡ Some (read_part row.now part))
+            × (self.new.read ≡ None)) }
     {
         match self.read.take() {
-            Some(read) if read.is_of(row) => Some(read),
+            Some(read) if read.object == row.object && read.tag == row.object_tag => {
+                Some(read.part)
+            }
             other => {
                 self.read = other;
                 None
@@ -75,12 +76,14 @@ impl<R: ReadOfObject> Held<R> {
         }
     }
 
-    /// Whether a request for the object of this row is passed over, since another object is held, whose request comes first.
+    /// Whether a request for the object of the row is passed over, since another object is held, whose request comes first.
     pub fn passes_over(&mut self, row: &ObjectRow) -> bool
         ensures { self.new.read ≡ self.old.read }
     {
         match &self.read {
-            Some(read) if read.is_of_another(row) && self.passed_over < MOST_PASSED_OVER => {
+            Some(read)
+                if read.object != row.object && self.passed_over < MOST_PASSED_OVER =>
+            {
                 self.passed_over += 1;
                 true
             }

@@ -12,5 +12,5 @@ pub use ahead::{FilesAhead, HashedFiles, load_files, load_hashed_files, read_fil
 pub use blocks::{delete_blocks, put_blocks};
 pub use content::{BLOCK_SIZE, Content};
 pub use files::{delete_file, delete_files, put_file};
-pub use held::{Held, ReadOfObject};
+pub use held::{Held, ReadPart};
 pub use loading::find_file;

@@ -6,7 +6,7 @@ ghost use Rattle.sha2.specs.Sha512.{sha512};
 ghost use Rattle.dep_types.specs.State.{File, file_at};
 ghost use Rattle.dep_types.specs.Rows.{file_row, sha512s_of};
 ghost use Rattle.dep_row_maps.specs.Clauses.{MayReadOver, ReadsMaps};
-ghost use Rattle.dep_row_maps.specs.ReadLaws.{listed_files};
+ghost use Rattle.dep_row_maps.specs.ReadLaws.{file_rows};
 ghost use Rattle.dep_row_maps.specs.TablesAre.{files_at};
 ghost use Rattle.dep_types.specs.Names.{if_passes};
 
@@ -35,7 +35,7 @@ pub(crate) fn read_sha512s<T: Statements>(
 ) -> Result<Vec<[u8; 64]>, StoreFault>
     requires { end ≤ length rows.now }
     ensures does { MayReadOver T.lenders T.state tx.old tx.new result
-        (λ s. (n : ℕ) → rows.now ≡ take (length rows.now) (listed_files n (files_at s.objects n))
+        (λ s. (n : ℕ) → rows.now ≡ take (length rows.now) (file_rows n (files_at s.objects n))
         → first.items ≡ take (length first.items) (sha512s_of (files_at s.objects n))
         → IfOk result (λ values. values.items
         ≡ take (max end (length first.items)) (sha512s_of (files_at s.objects n)))) }

@@ -5,7 +5,7 @@ use Rattle.dep_decisions.specs.Laws.{KeepsObjects}
 use Rattle.dep_objects.specs.Ahead.{AreReadAhead, AreTextsOf}
 use Rattle.dep_objects.specs.declared.ahead.ReadTexts.{ReadTexts}
 use Rattle.dep_objects.specs.declared.ahead.TextsAhead.{TextsAhead}
-use Rattle.dep_files.specs.Ahead.{AreFilesAhead, AreFilesOf}
+use Rattle.dep_files.specs.Ahead.{AreFilesAhead, AreReadFilesOf}
 use Rattle.dep_files.specs.declared.ahead.FilesAhead.{FilesAhead}
 use Rattle.dep_files.specs.declared.ahead.ReadFiles.{ReadFiles}
 use Rattle.dep_views.specs.Ahead.{AreRowsAhead}
@@ -26,7 +26,7 @@ texts_still s t ahead keeps are = go ahead.read are
 files_still : (s t : State) (ahead : FilesAhead) → KeepsObjects s t → AreFilesAhead s ahead → AreFilesAhead t ahead
 files_still s t ahead keeps are = go ahead.read are
   where
-    go : (read : Option ReadFiles) → IfSome read (AreFilesOf s) → IfSome read (AreFilesOf t)
+    go : (read : Option ReadFiles) → IfSome read (AreReadFilesOf s) → IfSome read (AreReadFilesOf t)
     go None h = tt
     go (Some read) h = record {
       given = omega (arith, h.given, keeps.next);

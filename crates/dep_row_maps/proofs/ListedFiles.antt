@@ -19,7 +19,7 @@ use Rattle.dep_tables.specs.FileKeys.{is_file_from}
 use Rattle.dep_tables.specs.Edits.{page_size}
 use Rattle.dep_row_maps.specs.Stored.{file_stored, is_file_of}
 use Rattle.dep_row_maps.specs.TablesAre.{files_at}
-use Rattle.dep_row_maps.specs.ReadLaws.{listed_files, files_from, FilesRead, FilesPageRead}
+use Rattle.dep_row_maps.specs.ReadLaws.{file_rows, files_from, FilesRead, FilesPageRead}
 use Rattle.dep_row_maps.proofs.Blocks.{number_order}
 use Rattle.dep_row_maps.proofs.Readings.{all_read, file_same}
 use Rattle.dep_row_maps.proofs.Spreads.{both, less}
@@ -65,12 +65,12 @@ same_rows found rows e = all_read file_values file_same (λ r. r) found rows e �
 
 pub files_read : FilesRead
 files_read t s h n from found read =
-    same_rows found (files_from from (listed_files n (files_at s.objects n)))
+    same_rows found (files_from from (file_rows n (files_at s.objects n)))
     (read ∙ ap (each shown_file) (picked n from t.files ∙ ap (filter (reaches_number 0 from)) (h.common.files.of_each n)) ∙ shown_from n from (finmap.entries (files_at s.objects n)))
 
 pub files_page_read : FilesPageRead
 files_page_read t s h n from found read =
-    let its = files_from from (listed_files n (files_at s.objects n)) in
+    let its = files_from from (file_rows n (files_at s.objects n)) in
     same_rows found (take page_size its)
     (read ∙ ap (take page_size) (ap (each shown_file) (picked n from t.files ∙ ap (filter (reaches_number 0 from)) (h.common.files.of_each n)) ∙ shown_from n from (finmap.entries (files_at s.objects n)))
     ∙ take-map file_values page_size its)
@@ -120,5 +120,5 @@ module _ (n : ℕ) where
       rw (not_reached (row.file + 1) e.0 (omega (arith, order))) (behind es (both _ _ up).1 k row there ∙ ap (λ i. drop i (file_row n e.0 e.1 ∷ rows_of es)) (sym next))
 
 -- those behind one of them are those that follow it
-pub files_behind : (n : ℕ) (files : Numbered File) (k : ℕ) (row : FileRow) → slice_get (listed_files n files) k ≡ Some row → files_from (row.file + 1) (listed_files n files) ≡ drop (k + 1) (listed_files n files)
+pub files_behind : (n : ℕ) (files : Numbered File) (k : ℕ) (row : FileRow) → slice_get (file_rows n files) k ≡ Some row → files_from (row.file + 1) (file_rows n files) ≡ drop (k + 1) (file_rows n files)
 files_behind n files k row there = behind n (finmap.entries files) (finmap.entries_sorted files) k row there

@@ -113,8 +113,8 @@ FilesListed = HoldsOfTables (λ t s. (n : ℕ)
     → filter (is_file_of n) t.files ≡ rows_of (file_stored n) (files_at s.objects n))
 
 -- the row of each of an object's files, by number
-abbrev pub listed_files : ℕ → Numbered File → List FileRow
-listed_files n files = each (λ e. file_row n e.0 e.1) (map.entries files)
+abbrev pub file_rows : ℕ → Numbered File → List FileRow
+file_rows n files = each (λ e. file_row n e.0 e.1) (map.entries files)
 
 -- those from a number on
 abbrev pub files_from : ℕ → List FileRow → List FileRow
@@ -123,13 +123,13 @@ files_from from rows = filter (λ row. nat_le from row.file) rows
 -- what a query finds of an object's files from a number on is the row of each, by number
 abbrev pub FilesRead : Type 0
 FilesRead = HoldsOfTables (λ t s. (n from : ℕ) (found : List FileRow) → AreFileRowsOf n from t found
-    → found ≡ files_from from (listed_files n (files_at s.objects n)))
+    → found ≡ files_from from (file_rows n (files_at s.objects n)))
 
 -- a page of them has the first of these rows
 abbrev pub FilesPageRead : Type 0
 FilesPageRead = HoldsOfTables (λ t s. (n from : ℕ) (found : List FileRow)
     → AreFirstFileRows n from t found
-    → found ≡ take page_size (files_from from (listed_files n (files_at s.objects n))))
+    → found ≡ take page_size (files_from from (file_rows n (files_at s.objects n))))
 
 -- the stored row at a number is that of the upload, and none is there without one
 abbrev pub UploadFound : Type 0

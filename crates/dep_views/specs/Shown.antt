@@ -36,6 +36,13 @@ module _ {T L : Type 0} (lenders : T → L) (state : T → db.State) (old new : 
     pub still : HasCleanDisk (state new) → IsOurs (state old)
         → OnOk result ((state new).now ≡ (state old).now)
 
+-- so it is with the object of a row, which is there
+abbrev pub ReadsRow : {T L : Type 0} → (read_set : ℕ → ReadSet) → (lenders : T → L)
+    → (state : T → db.State) → (old new : T) → Result Shown StoreFault → ObjectRow
+    → (reported : State → Type 0) → Type 0
+ReadsRow read_set lenders state old new result row reported =
+    ReadsShown lenders state old new result (read_set row.object) (λ s. HasRow s row × reported s)
+
 -- the number of the object that is shown, or of which a part is
 abbrev pub object_of_read_set : ReadSet → Option ℕ
 object_of_read_set (read_set.Object n) = Some n

@@ -6,7 +6,7 @@ ghost use Rattle.dep_types.specs.State.{State};
 ghost use Rattle.dep_files.specs.Ahead.{AreFilesAhead};
 ghost use Rattle.dep_row_maps.specs.Stored.{HasRow};
 ghost use Rattle.dep_views.specs.Ahead.{AreRowsAhead};
-ghost use Rattle.dep_views.specs.Shown.{MayFindRow, MayReadShown, ReadsShown, object_of_read_set, object_row_read};
+ghost use Rattle.dep_views.specs.Shown.{MayFindRow, MayReadShown, ReadsRow, ReadsShown, object_of_read_set, object_row_read};
 
 use crate::ahead::RowsAhead;
 use crate::objects::{view_of, with_files};
@@ -26,8 +26,8 @@ fn show_listed<T: Statements>(
     files: &mut FilesAhead,
     row: ObjectRow,
 ) -> Result<Shown, StoreFault>
-    ensures does { ReadsShown T.lenders T.state tx.old tx.new result
-        (read_set.Files row.object) (λ s. HasRow s row × AreFilesAhead s files.old) }
+    ensures does { ReadsRow read_set.Files T.lenders T.state tx.old tx.new result row
+        (λ s. AreFilesAhead s files.old) }
     ensures files { (s : State) → AreFilesAhead s files.old → AreFilesAhead s files.new }
 {
     let listed = load_files(tx, alloc, files, &row)?;
@@ -46,8 +46,8 @@ fn show_hashed<T: Statements>(
     files: &mut FilesAhead,
     row: ObjectRow,
 ) -> Result<Shown, StoreFault>
-    ensures does { ReadsShown T.lenders T.state tx.old tx.new result
-        (read_set.Payload row.object) (λ s. HasRow s row × AreFilesAhead s files.old) }
+    ensures does { ReadsRow read_set.Payload T.lenders T.state tx.old tx.new result row
+        (λ s. AreFilesAhead s files.old) }
     ensures files { (s : State) → AreFilesAhead s files.old → AreFilesAhead s files.new }
 {
     let hashed = load_hashed_files(tx, alloc, files, &row)?;
@@ -89,8 +89,8 @@ fn show_rest<T: Statements>(
     rows: &mut RowsAhead,
     row: ObjectRow,
 ) -> Result<Shown, StoreFault>
-    ensures does { ReadsShown T.lenders T.state tx.old tx.new result
-        (read_set.Object row.object) (λ s. HasRow s row × AreRowsAhead s rows.old) }
+    ensures does { ReadsRow read_set.Object T.lenders T.state tx.old tx.new result row
+        (λ s. AreRowsAhead s rows.old) }
     ensures rows { (s : State) → AreRowsAhead s rows.old → AreRowsAhead s rows.new }
 {
     if let Some(metadata) = rows.texts.take(&row) {

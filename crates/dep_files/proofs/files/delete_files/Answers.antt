@@ -7,7 +7,7 @@ use Rattle.dep_tables.proofs.Results.{ok_then}
 use Rattle.dep_tables.proofs.Chains.{stays_then}
 use Rattle.dep_row_maps.specs.Laws.{without_contents}
 use Rattle.dep_row_maps.proofs.ListedFiles.{files_read, files_from_none}
-use Rattle.dep_row_maps.specs.ReadLaws.{listed_files}
+use Rattle.dep_row_maps.specs.ReadLaws.{file_rows}
 use Rattle.dep_row_maps.specs.TablesAre.{files_at}
 use Rattle.dep_files.proofs.Behind.{behind}
 use Rattle.dep_files.proofs.FileCalls.{files_gone}
@@ -23,7 +23,7 @@ returns g c =
             let old = g.T.Statements.state c.args.tx.now in
             let seen = behind c.in_ok-rows.ensures.does.keeps rest.stays clean ours s are in
             let found = c.in_ok-rows.rows.items in
-            let is = files_read (tables_of old) s are c.args.object 0 found (c.in_ok-rows.ensures.does.ok seen.clean ours) ∙ files_from_none (listed_files c.args.object (files_at s.objects c.args.object)) in
+            let is = files_read (tables_of old) s are c.args.object 0 found (c.in_ok-rows.ensures.does.ok seen.clean ours) ∙ files_from_none (file_rows c.args.object (files_at s.objects c.args.object)) in
             let without = λ (rows : List FileRow). without_contents (map (λ (r : FileRow). r.file) rows) in
             let same = ap (λ rows. without rows (tables_of (g.T.Statements.state c.files_of.new.tx))) c.as_slice.ensures.value ∙ ap (without found) seen.tables in
             ok_then c.delete_files.result (rest.ok clean (c.in_ok-rows.ensures.does.keeps.stays.inside seen.clean inside) seen.ours)
