@@ -1,12 +1,12 @@
 -- The texts of an object that are read before a request needs them.
-use Rattle.std.specs.Prelude.{◌≡◌, ◌<◌, ◌+◌, Option, Some, None, true, false, Bool, List, [], ◌++◌, filter, map as each, IfSome}
-use Rattle.std.specs.FinMap as map
+use Rattle.std.specs.Prelude.{◌≡◌, ℕ, ◌+◌, Option, Some, None, true, false, Bool, List, [], ◌++◌, filter, map as each, IfSome}
 use Rattle.std.specs.Ordering.{is_lt}
 use Rattle.sqlite_value.specs.Order.{Row}
-use Rattle.dep_types.specs.State.{State, Object, Texts}
+use Rattle.dep_types.specs.State.{State, Texts}
 use Rattle.dep_tables.specs.Rows.{by_name_and_place, metadata_values}
 use Rattle.dep_tables.specs.declared.metadata.MetadataRow.{MetadataRow}
 use Rattle.dep_row_maps.specs.Stored.{grouped, listed, metadata_rows, pair_seen, text_values}
+use Rattle.dep_files.specs.Held.{IsReadPart}
 use Rattle.dep_objects.specs.Texts.{closed}
 use Rattle.dep_objects.specs.declared.ahead.TextsPage.{TextsPage}
 use Rattle.dep_objects.specs.declared.ahead.ReadTexts.{ReadTexts}
@@ -32,20 +32,15 @@ IsPage all from page =
     rows_before page.next all ≡ rows_before (Some from) all ++ each metadata_values page.rows.items
 
 -- of these texts of an object they are the ones before its next key, or all of them
-pub record AreTextsSoFar (m : Texts) (read : ReadTexts) : Type 0 where
+pub record AreTextsSoFar (n : ℕ) (m : Texts) (read : ReadTexts) : Type 0 where
   pub part : read.is_whole ≡ false → closed read.metadata read.last
-      ≡ grouped (each pair_seen (rows_before (Some read.next) (metadata_rows read.object m)))
+      ≡ grouped (each pair_seen (rows_before (Some read.next) (metadata_rows n m)))
   pub whole : read.is_whole ≡ true → read.metadata ≡ grouped (listed m)
-
--- its tag was given, and while the object has it they are its texts
-pub record AreTextsOf (s : State) (read : ReadTexts) : Type 0 where
-  pub given : read.tag < s.next.change
-  pub texts : (o : Object) → map.get s.objects read.object ≡ Some o → o.tag ≡ read.tag
-      → AreTextsSoFar o.metadata read
 
 -- of each state the texts that were read are its own
 abbrev pub AreReadAhead : State → TextsAhead → Type 0
-AreReadAhead s ahead = IfSome ahead.held.read (AreTextsOf s)
+AreReadAhead s ahead =
+    IfSome ahead.held.read (IsReadPart (λ n o read. AreTextsSoFar n o.metadata read) s)
 
 -- what a call leaves of them that reads more
 abbrev pub KeepsRead : State → (before now : TextsAhead) → Type 0

@@ -1,18 +1,18 @@
 //! The texts of an object that are read before a request needs them, some at a time.
 
-ghost use Rattle.std.specs.Prelude.{◌≡◌, ◌-◌, false, [], ◌∷◌, ◌++◌, length, option_map, IfOk, IfSome};
+ghost use Rattle.std.specs.Prelude.{◌≡◌, ℕ, ◌-◌, false, [], ◌∷◌, ◌++◌, length, option_map, IfOk, IfSome};
 ghost use Rattle.std.specs.List.{slice_get};
-ghost use Rattle.dep_types.specs.State.{State};
+ghost use Rattle.dep_types.specs.State.{State, Texts};
 ghost use Rattle.dep_types.specs.Sound.{IsSound};
 ghost use Rattle.dep_row_maps.specs.Stored.{HasRow, metadata_rows};
 ghost use Rattle.dep_row_maps.specs.TablesAre.{metadata_at};
 ghost use Rattle.dep_row_maps.specs.Clauses.{ReadsMaps, ReadsOver};
 ghost use Rattle.dep_objects.specs.Objects.{IsDescribed};
-ghost use Rattle.dep_objects.specs.Ahead.{AreReadAhead, IsPage, AreTextsOf, KeepsRead, key_after};
+ghost use Rattle.dep_objects.specs.Ahead.{AreReadAhead, AreTextsSoFar, IsPage, KeepsRead, key_after};
 
 use crate::gathering::{NamedTexts, close, gather_rows};
 use crate::objects::find_object;
-use dep_files::{Held, ReadOfObject};
+use dep_files::Held;
 use dep_tables::{LIMIT, MetadataRow, PAGE_SIZE, Statements, texts_from, texts_from_name};
 use dep_types::{Metadata, ObjectRow, StoreFault, Text};
 use std::alloc::{AllocError, Global};
@@ -31,32 +31,15 @@ pub(crate) struct TextsPage {
     next: Option<TextKey>,
 }
 
-/// The texts of one state of an object, as far as they were read.
+/// The texts of an object, as far as they were read.
 #[derive(Drop)]
 pub(crate) struct ReadTexts {
-    object: u64,
-    /// The object's tag: once the object is changed it has another.
-    tag: u64,
     metadata: Metadata,
     /// The name that was read last, and its texts so far.
     last: Option<NamedTexts>,
     /// Where those begin that are left, unless all of them were read.
     next: TextKey,
     is_whole: bool,
-}
-
-impl ReadOfObject for ReadTexts {
-    ghost object_read = { λ read. read.object };
-
-    ghost tag_read = { λ read. read.tag };
-
-    fn is_of(&self, row: &ObjectRow) -> bool {
-        self.object == row.object && self.tag == row.object_tag
-    }
-
-    fn is_of_another(&self, row: &ObjectRow) -> bool {
-        self.object != row.object
-    }
 }
 
 /// The texts of an object that were read ahead of a request that shows them. They are lost with the process.
@@ -86,22 +69,22 @@ impl TextsAhead {
         if read.is_whole {
             return Some(read.metadata);
         }
-        self.held.put(read);
+        self.held.put(row, read);
         None
     }
 
     // Takes out what was read of the object of this row, which may be nothing yet. It is `None` where the request is passed over.
     fn take_on(&mut self, alloc: Global, row: &ObjectRow) -> Option<ReadTexts>
         ensures left { (s : State) → AreReadAhead s self.old → AreReadAhead s self.new }
-        ensures taken { IfSome result (λ read. (s : State) → IsSound s → AreReadAhead s self.old
-            → HasRow s row.now → AreTextsOf s read) }
+        ensures taken { IfSome result (λ read. (s : State) → AreReadAhead s self.old → HasRow s row.now
+            → AreTextsSoFar row.now.object (metadata_at s.objects row.now.object) read) }
     {
         if self.held.passes_over(row) {
             return None;
         }
         match self.held.take(row) {
             Some(read) => Some(read),
-            None => Some(ReadTexts::none_of(alloc, row)),
+            None => Some(ReadTexts::none(alloc)),
         }
     }
 
@@ -114,13 +97,11 @@ impl TextsAhead {
 }
 
 impl ReadTexts {
-    // Nothing is read yet of the object of this row.
-    fn none_of(alloc: Global, row: &ObjectRow) -> ReadTexts
-        ensures { (s : State) → IsSound s → HasRow s row.now → AreTextsOf s result }
+    // Nothing is read yet.
+    fn none(alloc: Global) -> ReadTexts
+        ensures { (n : ℕ) (m : Texts) → AreTextsSoFar n m result }
     {
         ReadTexts {
-            object: row.object,
-            tag: row.object_tag,
             metadata: Metadata::new(alloc),
             last: None,
             next: TextKey {
@@ -186,17 +167,14 @@ fn next_page<T: Statements>(
 
 // Gathers the texts of a page behind those that were read.
 fn with_page(alloc: Global, read: ReadTexts, page: TextsPage) -> Result<ReadTexts, StoreFault>
-    ensures { IfOk result (λ now. (s : State) → read.is_whole ≡ false → AreTextsOf s read
-        → IsPage (metadata_rows read.object (metadata_at s.objects read.object)) read.next page
-        → AreTextsOf s now) }
+    ensures { IfOk result (λ now. (n : ℕ) (m : Texts) → read.is_whole ≡ false → AreTextsSoFar n m read
+        → IsPage (metadata_rows n m) read.next page → AreTextsSoFar n m now) }
 {
     let mut metadata = read.metadata;
     let last = gather_rows(alloc, &mut metadata, read.last, page.rows)?;
     let Some(next) = page.next else {
         close(&mut metadata, last)?;
         return Ok(ReadTexts {
-            object: read.object,
-            tag: read.tag,
             metadata,
             last: None,
             next: read.next,
@@ -204,8 +182,6 @@ fn with_page(alloc: Global, read: ReadTexts, page: TextsPage) -> Result<ReadText
         });
     };
     Ok(ReadTexts {
-        object: read.object,
-        tag: read.tag,
         metadata,
         last,
         next,
@@ -217,12 +193,14 @@ fn with_page(alloc: Global, read: ReadTexts, page: TextsPage) -> Result<ReadText
 fn read_on<T: Statements>(
     tx: &mut T,
     alloc: Global,
+    object: u64,
     read: ReadTexts,
 ) -> Result<ReadTexts, StoreFault>
     ensures does { ReadsOver T.lenders T.state tx.old tx.new result
-        (λ s. read.is_whole ≡ false → AreTextsOf s read → IfOk result (AreTextsOf s)) }
+        (λ s. read.is_whole ≡ false → AreTextsSoFar object (metadata_at s.objects object) read
+        → IfOk result (AreTextsSoFar object (metadata_at s.objects object))) }
 {
-    let page = next_page(tx, alloc, read.object, &read.next)?;
+    let page = next_page(tx, alloc, object, &read.next)?;
     with_page(alloc, read, page)
 }
 
@@ -245,11 +223,11 @@ pub fn read_ahead<T: Statements>(
         return Ok(true);
     };
     if read.is_whole {
-        ahead.held.put(read);
+        ahead.held.put(&row, read);
         return Ok(false);
     }
-    let read = read_on(tx, alloc, read)?;
+    let read = read_on(tx, alloc, row.object, read)?;
     let is_left = !read.is_whole;
-    ahead.held.put(read);
+    ahead.held.put(&row, read);
     Ok(is_left)
 }

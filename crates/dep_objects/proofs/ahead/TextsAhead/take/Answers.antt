@@ -1,9 +1,7 @@
-use Rattle.std.proofs.Common.{IfSome, subst}
-use Rattle.dep_objects.specs.Ahead.{AreTextsOf}
-use Rattle.dep_objects.proofs.AheadTexts.{whole_described}
+use Rattle.dep_objects.proofs.AheadTexts.{taken_texts, whole_described}
 use Rattle.dep_objects.proofs.ahead.TextsAhead.take.Goals as goal
 
 pub returns-then-read-clause-taken : goal.returns-then-read-clause-taken
 returns-then-read-clause-taken c s sound are has =
-    let its = c.in_ok-read.ensures.taken in
-    whole_described s c.args.row.now c.in_ok-read.read sound (subst (λ x. IfSome x (AreTextsOf s)) its.0 are) has its.2 its.3 c.if-read.true
+    let read = c.in_ok-read.read in
+    whole_described s c.args.row.now has read sound (taken_texts s c.args.row.now has read c.in_ok-read.ensures.taken.0 are) c.if-read.true
