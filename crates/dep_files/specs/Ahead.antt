@@ -23,8 +23,8 @@ pub record AreFilesSoFar (n : ℕ) (files : Numbered File) (read : ReadFiles) : 
   pub sha512s : read.sha512s.items ≡ take (length read.sha512s.items) (sha512s_of files)
 
 -- where they are, they are it still with what is read behind them
-abbrev pub ReadsOn : ℕ → Numbered File → ReadFiles → Result ReadFiles StoreFault → Type 0
-ReadsOn n files read result = AreFilesSoFar n files read → IfOk result (AreFilesSoFar n files)
+abbrev pub ReadsFilesOn : ℕ → Numbered File → ReadFiles → Result ReadFiles StoreFault → Type 0
+ReadsFilesOn n files read result = AreFilesSoFar n files read → IfOk result (AreFilesSoFar n files)
 
 -- of each state the files that were read are its own
 abbrev pub AreFilesAhead : State → FilesAhead → Type 0

@@ -4,12 +4,12 @@ ghost use Rattle.std.specs.Prelude.{◌≡◌, ℕ, ◌++◌, length, take, IfOk
 ghost use Rattle.dep_types.specs.Maps.{Numbered};
 ghost use Rattle.dep_types.specs.State.{State, File};
 ghost use Rattle.dep_types.specs.Sound.{IsSound};
+ghost use Rattle.dep_files.specs.Ahead.{AddsFiles, AreFilesAhead, AreFilesSoFar, ReadsFilesOn, number_behind};
 ghost use Rattle.dep_types.specs.Rows.{sha512s_of};
+ghost use Rattle.dep_row_maps.specs.Clauses.{Finds, MayReadOver, ReadsOver};
+ghost use Rattle.dep_row_maps.specs.ReadLaws.{file_rows};
 ghost use Rattle.dep_row_maps.specs.Stored.{HasRow};
 ghost use Rattle.dep_row_maps.specs.TablesAre.{files_at};
-ghost use Rattle.dep_row_maps.specs.ReadLaws.{file_rows};
-ghost use Rattle.dep_row_maps.specs.Clauses.{Finds, MayReadOver, ReadsOver};
-ghost use Rattle.dep_files.specs.Ahead.{AddsFiles, AreFilesAhead, AreFilesSoFar, ReadsOn, number_behind};
 
 use crate::held::Held;
 use crate::loading::read_sha512s;
@@ -59,12 +59,7 @@ impl FilesAhead {
 
     /// Takes out what was read of an object that had the first row and has the second one now, where files were only added to
     /// it: for [`load_files`], which reads the rest then.
-    pub fn follow(
-        &mut self,
-        alloc: Global,
-        before: &ObjectRow,
-        after: &ObjectRow,
-    ) -> FilesAhead
+    pub fn follow(&mut self, alloc: Global, before: &ObjectRow, after: &ObjectRow) -> FilesAhead
         ensures left { (s : State) → AreFilesAhead s self.old → AreFilesAhead s self.new }
         ensures followed { (s t : State) → IsSound t → AreFilesAhead s self.old
             → HasRow s before.now → HasRow t after.now → AddsFiles s t before.now.object
@@ -161,7 +156,7 @@ fn with_page<T: Statements>(
     read: ReadFiles,
 ) -> Result<ReadFiles, StoreFault>
     ensures does { ReadsOver T.lenders T.state tx.old tx.new result
-        (λ s. ReadsOn object (files_at s.objects object) read result) }
+        (λ s. ReadsFilesOn object (files_at s.objects object) read result) }
 {
     let from = key_behind(read.rows.as_slice())?;
     let page = files_page(tx, alloc, object, from)?;
@@ -177,7 +172,7 @@ fn with_page<T: Statements>(
 // Reads the next SHA-512 values of an object's files.
 fn with_values<T: Statements>(tx: &mut T, read: ReadFiles) -> Result<ReadFiles, StoreFault>
     ensures does { MayReadOver T.lenders T.state tx.old tx.new result
-        (λ s. (n : ℕ) → ReadsOn n (files_at s.objects n) read result) }
+        (λ s. (n : ℕ) → ReadsFilesOn n (files_at s.objects n) read result) }
 {
     let first = read.sha512s;
     let end = read.rows.len().min(first.len() + PAGE_SIZE);
@@ -198,7 +193,7 @@ fn read_on<T: Statements>(
     with_sha512s: bool,
 ) -> Result<ReadFiles, StoreFault>
     ensures does { MayReadOver T.lenders T.state tx.old tx.new result
-        (λ s. ReadsOn object (files_at s.objects object) read result) }
+        (λ s. ReadsFilesOn object (files_at s.objects object) read result) }
 {
     if !read.has_all {
         return with_page(tx, alloc, object, read);

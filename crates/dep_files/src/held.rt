@@ -81,9 +81,7 @@ impl<P: Drop> Held<P> {
         ensures { self.new.read ≡ self.old.read }
     {
         match &self.read {
-            Some(read)
-                if read.object != row.object && self.passed_over < MOST_PASSED_OVER =>
-            {
+            Some(read) if read.object != row.object && self.passed_over < MOST_PASSED_OVER => {
                 self.passed_over += 1;
                 true
             }

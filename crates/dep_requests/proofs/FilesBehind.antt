@@ -109,8 +109,7 @@ appended_adds s content (Metadata texts) ingests o low = adds_none o
 pub known_adds : (s : State) → IsSound s → (content : List ℕ) (d : Decision) (seen known : Option ObjectRow) → known ≡ (seen >>= row_left s content d)
     → IfSome seen (HasRow s) → AddsTo s (effect_of s content d) seen known
 known_adds s sound content d seen known is has was now looked left =
-    let found : Some now ≡ row_left s content d was = sym left ∙ is ∙ ap (λ (x : Option ObjectRow). x >>= row_left s content d) looked in
-    (
+    let found : Some now ≡ row_left s content d was = sym left ∙ is ∙ ap (λ (x : Option ObjectRow). x >>= row_left s content d) looked in (
       subst (λ (x : Option ObjectRow). IfSome x (HasRow s)) looked has,
       subst (λ (x : Option ObjectRow). IfSome x (HasRow (effect_of s content d))) left (has_known s content d seen known is),
       adds d found,

@@ -12,10 +12,9 @@ returns g c = record {
   does = record {
     map = λ clean ours s are first.
         let n = c.args.object in
-        let from = c.in_ok-from.from in
-        let rest = c.in_ok-rest.rest.items in
-        rest_all n (files_at s.objects n) c.args.rows.items first from rest c.in_ok-joined.field-0.items (c.in_ok-from.ensures ∙ ap number_behind c.as_slice.ensures.value)
-        (files_read (tables_of (g.T.Statements.state c.args.tx.now)) s are n from rest (c.in_ok-rest.ensures.does.ok clean ours)) c.in_ok-joined.ensures;
+        let rest = files_read (tables_of (g.T.Statements.state c.args.tx.now)) s are n c.in_ok-from.from c.in_ok-rest.rest.items (c.in_ok-rest.ensures.does.ok clean ours) in
+        rest_all n (files_at s.objects n) c.args.rows.items first c.in_ok-from.from c.in_ok-rest.rest.items c.in_ok-joined.field-0.items
+        (c.in_ok-from.ensures ∙ ap number_behind c.as_slice.ensures.value) rest c.in_ok-joined.ensures;
     keeps = reads_ok c.in_ok-rest.ensures.does.keeps;
   };
 }

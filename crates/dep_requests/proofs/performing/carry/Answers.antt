@@ -56,11 +56,11 @@ returns-clause-map g c = record {
       let mid = g.T.Statements.state c.carry_out.new.tx in
       let before = clean_before c.load_shown-2.ensures.does.map.keeps.stays clean in
       let accepted : IsAccepted s c.args.ruled.now.view op.content c.args.decision.now = record { config = config; op = op; sound = sound; seen = rules.view; ruling = ruling; sent = refl } in
+      let next = next_after config s op c.args.ruled.now.view c.args.decision.now c.after_taking-next.result rules.view ruling.1 (rw c.numbers_for.ensures at c.after_taking-next.ensures) in
       let becomes = request_made config s op c.args.decision.now ruling.1 in
       let made = subst (SeesState mid) becomes (c.in_ok-carry_out.ensures.map.done before within ours s are accepted) in
-      let known = has_known s op.content c.args.decision.now c.args.ruled.now.view.object c.row_after-after.result (c.row_after-after.ensures s op.content accepted) in
       let then = c.in_ok-carry_out.ensures.map.keeps.ours before within ours in
-      let next = next_after config s op c.args.ruled.now.view c.args.decision.now c.after_taking-next.result rules.view ruling.1 (rw c.numbers_for.ensures at c.after_taking-next.ensures) in
+      let known = has_known s op.content c.args.decision.now c.args.ruled.now.view.object c.row_after-after.result (c.row_after-after.ensures s op.content accepted) in
       let added = subst (λ (after : State). AddsTo s after c.args.ruled.now.view.object c.row_after-after.result) becomes (known_adds s sound op.content c.args.decision.now c.args.ruled.now.view.object c.row_after-after.result (c.row_after-after.ensures s op.content accepted) (seen_has config s op c.args.ruled.now.view rules.view)) in
       shown_after (effect config s op) op mid (g.T.Statements.state c.load_shown-2.new.tx) c.after_taking-next.result c.of-read_set.result c.load_shown-2.result made c.of-read_set.ensures next
       (c.load_shown-2.ensures.does.still clean then)

@@ -4,15 +4,15 @@ use Rattle.dep_views.proofs.ahead.read_whole.Goals as goal
 
 pub returns : goal.returns
 returns g c =
-    let one = c.in_ok-are_texts_left.ensures.does in
-    let more = c.read_listed.ensures.does in
+    let texts = c.in_ok-are_texts_left.ensures.does in
+    let files = c.read_listed.ensures.does in
     record {
       does = record {
+        keeps = may_then (may_read texts.keeps) files.keeps;
         map = λ is_open clean ours s are sound ahead. record {
-          texts = one.map (clean_before more.keeps.stays clean) ours s are sound ahead.texts;
-          files = over_behind (may_ok (may_read one.keeps)) more is_open clean ours s are sound ahead.files;
+          texts = texts.map (clean_before files.keeps.stays clean) ours s are sound ahead.texts;
+          files = over_behind (may_ok (may_read texts.keeps)) files is_open clean ours s are sound ahead.files;
         };
-        keeps = may_then (may_read one.keeps) more.keeps;
       };
     }
 

@@ -26,6 +26,6 @@ returns-clause-followed c s t sound are has_before has_after adds =
     let now = finmap.entries o.files in
     record {
       rows = subst (λ (k : ℕ). read.rows.items ≡ take (length read.rows.items) (file_rows k o.files)) same
-      (first_still (λ (e : ℕ × File). file_row n e.0 e.1) es more.0 now read.rows.items more.1 its.rows);
+          (first_still (λ (e : ℕ × File). file_row n e.0 e.1) es more.0 now read.rows.items more.1 its.rows);
       sha512s = first_still (λ (e : ℕ × File). sha512 e.1.content) es more.0 now read.sha512s.items more.1 its.sha512s;
     }))
