@@ -1,7 +1,7 @@
 #!/usr/bin/env python3
 """How long one client's requests make all others wait, over `swordd_host`, beside how long they may.
 
-    checks/hold.py [--mib 512] [--texts 1000000] [--references 100000] [--files 3000] [--check] [WORD..]
+    checks/hold.py [--mib 512] [--texts 1000000] [--references 100000] [--files 3000] [--listed 20000] [--check] [WORD..]
 
 One client does one thing after another; a second one asks for the service document over and over. Each line tells how long the
 act took, how long the other waited at most, and how long it may: 100 ms, and 100 ms for each 16 MiB that the request brings or
@@ -21,6 +21,7 @@ import tempfile
 import time
 
 from depositing import JSON, Client, as_file, by_reference, exchange, first_file
+from growing import fill_object
 from hosted import MIB, Host, rest
 from host_waits import MOST, SEGMENT_SIZE, Other, refused, slowness, upload
 
@@ -55,8 +56,11 @@ class Acts:
         self.options, self.folder, self.size = options, folder, options.mib * MIB
         self.host = Host(folder).wait_until_it_listens()
 
-    def restart(self, **settings):
+    def restart(self, change=None, **settings):
+        """Restarts the host, by these settings, and with a change of its store in between."""
         self.host.kill()
+        if change:
+            change(self.host.store)
         self.host = Host(self.folder, **settings).wait_until_it_listens()
 
     def client(self):
@@ -98,6 +102,12 @@ class Acts:
             path = self.path_of(client.ask(201, "POST", "/service", b"x", as_file("a"))[0])
             for _ in range(self.options.files - 1):
                 client.ask(200, "POST", path, b"x", as_file("a"))
+        return path
+
+    def list_many(self):
+        """An object of many files, whose rows are put into the tables."""
+        path = self.path_of(self.ask(201, "POST", "/service", b"x", as_file("a"))[0])
+        self.restart(lambda store: fill_object(store, self.options.listed))
         return path
 
     def remake(self):
@@ -205,11 +215,18 @@ class Acts:
         yield f"an object of {files:,} files, one by one", 0, None, None, filled
         yield "GET of that object", 0, None, filled, lambda: self.ask(200, "GET", self.filled)
         yield "DELETE of that object", 0, None, filled, lambda: self.ask(204, "DELETE", self.filled)
+        listed, count = lambda: self.made("listed", self.list_many), f"{self.options.listed:,} files"
+        for what, method, path in (("object", "GET", ""), ("object", "HEAD", ""), ("bag", "GET", "/bag"),
+                                   *((f"{it}-{digest}", "GET", f"/bag/{it}-{digest}.txt")
+                                     for it in ("manifest", "tagmanifest") for digest in ("sha256", "sha512"))):
+            yield (f"{method} of a listed {what}, {count}", 0, None, listed,
+                   lambda method=method, path=path: self.ask(200, method, f"{self.listed}{path}"))
+        yield f"one file more beside {count}", 0, None, listed, lambda: self.ask(200, "POST", self.listed, b"x", as_file("a"))
 
 
 def main():
     words = argparse.ArgumentParser(description=__doc__, formatter_class=argparse.RawDescriptionHelpFormatter)
-    for name, most in (("mib", 512), ("texts", 1_000_000), ("references", 100_000), ("files", 3_000)):
+    for name, most in (("mib", 512), ("texts", 1_000_000), ("references", 100_000), ("files", 3_000), ("listed", 20_000)):
         words.add_argument(f"--{name}", type=int, default=most)
     words.add_argument("--check", action="store_true")
     words.add_argument("words", nargs="*")

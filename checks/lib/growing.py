@@ -38,18 +38,21 @@ UPLOAD_ROWS = (
     "blocks SELECT kind, n, part, place, bytes FROM numbers, blocks WHERE kind = 1 AND owner = 1")
 # In tables of version 2 besides, for a file and for an upload.
 SHA512_ROWS = [f"sha512s SELECT kind, n, value FROM numbers, sha512s WHERE kind = {kind} AND owner = 1" for kind in (0, 1)]
-# What file n of the first object is, told of its first one.
+# What file n of an object is, told of its first one, number ?1; and the numbers behind that one.
 FILE_ROWS = (
-    "files SELECT n, object, name, media, size, tag, deposited, behalf, by_reference, sha256 FROM numbers, files WHERE file = 1",
-    OBJECT_ROWS[-1], SHA512_ROWS[0])
+    "files SELECT n, object, name, media, size, tag, deposited, behalf, by_reference, sha256 FROM numbers, files WHERE file = ?1",
+    "blocks SELECT kind, n, part, place, bytes FROM numbers, blocks WHERE kind = 0 AND owner = ?1",
+    "sha512s SELECT kind, n, value FROM numbers, sha512s WHERE kind = 0 AND owner = ?1")
+BEHIND = "WITH RECURSIVE numbers(n) AS (SELECT ?1 + 1 UNION ALL SELECT n + 1 FROM numbers WHERE n + 1 < ?1 + ?2) INSERT INTO "
 
 
 def fill_object(store, count):
-    """Gives the first object so many files, each as the one that it has, which is the only one of the store. No server has it open."""
+    """Gives the object whose file was deposited last, its only one, so many, two at least. No server has the store open."""
     with contextlib.closing(sqlite3.connect(store)) as database:
+        (last,) = database.execute("SELECT next_file - 1 FROM state").fetchone()
         for rows in FILE_ROWS:
-            database.execute(NUMBERED + rows, (count,))
-        database.execute("UPDATE state SET next_file = ?1 + 1", (count,))
+            database.execute(BEHIND + rows, (last, count))
+        database.execute("UPDATE state SET next_file = ?1 + ?2", (last, count))
         database.commit()
 
 
