@@ -5,9 +5,9 @@
 
 One client does one thing after another; a second one asks for the service document over and over. Each line tells how long the
 act took, how long the other waited at most, and how long it may: 100 ms, and 100 ms for each 16 MiB that the request brings or
-moves. Where the tables or the JSON of the kit take more than that, an act may take so many microseconds for each text or reference
-(EACH). On a machine that is slower than usual (slowness) all that is longer by as much. With words it does only the acts whose
-line has one of them. With --check its status is 1 where another waited longer.
+moves. Where the tables of the kit take more than that, an act may take so many microseconds for each text (EACH). On a machine that
+is slower than usual (slowness) all that is longer by as much. With words it does only the acts whose line has one of them. With
+--check its status is 1 where another waited longer.
 """
 
 import sys
@@ -27,8 +27,8 @@ from host_waits import MOST, SEGMENT_SIZE, Other, refused, slowness, upload
 
 PATIENCE, CLIENTS, IDLE = 900, 10, 8
 CROWD, CROWD_SECONDS = 900, 5
-# What a text takes at most to be kept and to be deleted, and a reference in those steps that take all of them at once.
-EACH = {"kept": 20, "deleted": 12, "read": 2}
+# What a text takes at most to be kept and to be deleted.
+EACH = {"kept": 20, "deleted": 12}
 READ = "import sys, urllib.request\nwith urllib.request.urlopen(sys.argv[1]) as it:\n    while it.read(1 << 20): pass"
 # Asks for a path over so many connections, and reads what comes until the time is over.
 READ_BY_MANY = """
@@ -193,7 +193,7 @@ class Acts:
                    lambda method=method, is_set=is_set: self.remove(method, is_set))
 
     def with_many(self):
-        """Those of many texts, references or files: each with how many there are, and what each of them may take."""
+        """Those of many texts, references or files: each with how many texts come or go, and what each of them may take."""
         texts, references, files = self.options.texts, self.options.references, self.options.files
         described, filled = lambda: self.made("described", self.describe), lambda: self.made("filled", self.fill)
         shown = lambda status, method, path: self.ask(status, method, f"{self.described}{path}")
@@ -208,7 +208,7 @@ class Acts:
         yield f"{CLIENTS} GETs of it at once", 0, None, described, lambda: self.read_at_once(f"{self.described}/metadata")
         yield "one text more", 0, None, described, lambda: self.ask(200, "POST", self.described, '{"dc:subject":""}', METADATA)
         yield "DELETE of its object", texts, "deleted", described, lambda: shown(204, "DELETE", "")
-        yield f"{references:,} references of nothing", references, "read", None, self.refer_to_nothing
+        yield f"{references:,} references of nothing", 0, None, None, self.refer_to_nothing
         sent = lambda: self.made("many", self.send_many)
         yield f"by reference {files:,} uploads, another digest (412)", 0, None, sent, self.refer_to_many
         yield "the same again, of so many (412)", 0, None, sent, self.refer_to_many
